@@ -1,0 +1,13 @@
+pub mod Units
+pub mod Names
+pub mod Refusals
+pub mod Events
+pub mod Claims
+pub mod Letters
+pub mod Family
+pub mod Futures
+pub mod Options
+pub mod Reference
+pub mod Terms
+pub mod Adjust
+pub mod Worth

@@ -1,0 +1,13 @@
+pub mod units;
+pub mod refusal;
+pub mod right;
+pub mod code;
+pub mod event;
+pub mod claim;
+pub mod lot;
+pub mod terms;
+pub mod family;
+pub mod futures;
+pub mod options;
+pub mod reference;
+pub mod adjust;
