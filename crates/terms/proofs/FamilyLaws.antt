@@ -15,7 +15,7 @@ use Rattle.terms.specs.declared.right.Right.{Right}
 use Rattle.terms.specs.declared.right.Right.the-variants.{Without, Call, Put}
 use Rattle.terms.specs.declared.lot.Lot.{Lot}
 use Rattle.terms.proofs.Tests.{between-parts, Priced, priced-parts}
-use Rattle.terms.proofs.Letters.{lettered, ten, reads, writes}
+use Rattle.terms.proofs.Letters.{lettered, ten, reads, writes, differ}
 
 -- a price times share units
 pub product-in : (price units : ℕ) → price ≤ largest-price → units ≤ largest-units → price * units ≤ 400000000000000
@@ -33,13 +33,15 @@ futures-law =
       ten = λ n c h. let k = ten (codes "F123456789") n c h in omega arith;
       reads = reads (codes "F123456789") refl;
       writes = writes (codes "F123456789");
+      differ = differ (codes "F123456789") refl;
       lot-least = omega arith;
       lot-most = omega arith;
       strikes = futures-strikes;
       parts = zero-add;
       trade-in = λ l price h. let p = priced-parts futures l price h in omega (arith, product-in price (l .units) (p .price-most) (p .units));
       mark-in = λ l price h. let p = priced-parts futures l price h in omega (arith, product-in price (l .units) (p .price-most) (p .units));
-      final-in = λ l price dollars h d. let p = priced-parts futures l price h in omega (arith, product-in price (l .units) (p .price-most) (p .units), leb-true dollars 400000000 d) }
+      final-in = λ l price dollars h d. let p = priced-parts futures l price h in omega (arith, product-in price (l .units) (p .price-most) (p .units), leb-true dollars 400000000 d);
+    }
 
 options-strikes : (r : Right) (strike : ℕ) → options-fits r strike ≡ true → strike ≤ largest-price
 options-strikes Without strike h = absurd (both-ways false refl h)
@@ -58,6 +60,7 @@ options-law =
       ten = λ n c h. let k = ten (codes "OABCDEFGHI") n c h in omega arith;
       reads = reads (codes "OABCDEFGHI") refl;
       writes = writes (codes "OABCDEFGHI");
+      differ = differ (codes "OABCDEFGHI") refl;
       lot-least = omega arith;
       lot-most = omega arith;
       strikes = options-strikes;
@@ -65,9 +68,10 @@ options-law =
       trade-in = λ l price h. let p = priced-parts options l price h in omega (arith, product-in price (l .«strike_lot») (p .price-most) (p .strike-lot));
       mark-in = λ l price h. omega arith;
       final-in =
-        λ l price dollars h d.
+          λ l price dollars h d.
           let p = priced-parts options l price h in
           let s : l .strike ≤ largest-price = options-strikes (l .right) (l .strike) (p .fits) in
           exercised-in (l .right) _ _
           (omega (arith, product-in price (l .units) (p .price-most) (p .units), p .cash, leb-true dollars 400000000 d))
-          (omega (arith, product-in (l .strike) (l .«strike_lot») s (p .strike-lot))) }
+          (omega (arith, product-in (l .strike) (l .«strike_lot») s (p .strike-lot)));
+    }

@@ -52,22 +52,22 @@ reads (x ∷ xs) d (suc n) c h =
     later x xs n c (not-true (has x xs) (p .0)) (found xs n c h) (reads xs (p .1) n c h) (eqb x c) refl
 
 after :
-  (x : ℕ) (xs : List ℕ) (n c : ℕ) →
-  ((m : ℕ) → level-in xs c ≡ Some m → letter-in xs m ≡ Some c) →
-  (o : Option ℕ) →
-  level-in xs c ≡ o →
-  next-level o ≡ Some n →
-  letter-in (x ∷ xs) n ≡ Some c
+    (x : ℕ) (xs : List ℕ) (n c : ℕ) →
+    ((m : ℕ) → level-in xs c ≡ Some m → letter-in xs m ≡ Some c) →
+    (o : Option ℕ) →
+    level-in xs c ≡ o →
+    next-level o ≡ Some n →
+    letter-in (x ∷ xs) n ≡ Some c
 after x xs n c rest None e h = cc
 after x xs n c rest (Some m) e h = let z : suc m ≡ n = cc in ap (letter-in (x ∷ xs)) (sym z) ∙ rest m e
 
 written :
-  (x : ℕ) (xs : List ℕ) (n c : ℕ) →
-  ((m : ℕ) → level-in xs c ≡ Some m → letter-in xs m ≡ Some c) →
-  (b : Bool) →
-  eqb x c ≡ b →
-  cond b (Some 0) (next-level (level-in xs c)) ≡ Some n →
-  letter-in (x ∷ xs) n ≡ Some c
+    (x : ℕ) (xs : List ℕ) (n c : ℕ) →
+    ((m : ℕ) → level-in xs c ≡ Some m → letter-in xs m ≡ Some c) →
+    (b : Bool) →
+    eqb x c ≡ b →
+    cond b (Some 0) (next-level (level-in xs c)) ≡ Some n →
+    letter-in (x ∷ xs) n ≡ Some c
 written x xs n c rest true t h =
     let e : x ≡ c = eqb-true x c t in
     let z : 0 ≡ n = cc in
@@ -77,3 +77,6 @@ written x xs n c rest false t h = after x xs n c rest (level-in xs c) refl h
 pub writes : (xs : List ℕ) (n c : ℕ) → level-in xs c ≡ Some n → letter-in xs n ≡ Some c
 writes [] n c h = cc
 writes (x ∷ xs) n c h = written x xs n c (λ m e. writes xs m c e) (eqb x c) refl h
+
+pub differ : (xs : List ℕ) → distinct xs ≡ true → (m n c : ℕ) → letter-in xs m ≡ Some c → letter-in xs n ≡ Some c → m ≡ n
+differ xs d m n c hm hn = let p = reads xs d m c hm in let q = reads xs d n c hn in cc

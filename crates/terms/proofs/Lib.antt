@@ -3,4 +3,4 @@ pub mod Refusals
 pub mod Letters
 pub mod FamilyLaws
 pub mod Bounds
-pub mod Worth
+pub mod WorthKept

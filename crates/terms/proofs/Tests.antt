@@ -36,7 +36,8 @@ priced-parts a l price h =
       units = between-parts _ _ _ (r .0) .1;
       strike-lot = between-parts _ _ _ (s .0) .1;
       cash = leb-true _ _ (s .1);
-      price-most = between-parts _ _ _ (q .1) .1 }
+      price-most = between-parts _ _ _ (q .1) .1;
+    }
 
 pub record Fit (t : Terms) : Type 0 where
   pub level : t .series .level ≤ last-level
@@ -60,7 +61,8 @@ terms-parts t h =
       level = leb-true (t .series .level) last-level (level .0);
       units-least = between-parts 1 largest-units (t .units) (lot .0) .0;
       units-most = between-parts 1 largest-units (t .units) (lot .0) .1;
-      cash = leb-true (t .cash) largest-lot-cash (kept .0) }
+      cash = leb-true (t .cash) largest-lot-cash (kept .0);
+    }
 
 pub record Inside (e : Event) : Type 0 where
   pub cash : e .cash ≤ largest-cash
@@ -80,4 +82,5 @@ event-parts e h =
     record {
       cash = leb-true (e .cash) largest-cash (not-false (is-cash (e .cash)) (paid .0));
       ratio = between-parts 1 largest-ratio (e .ratio) (not-false (is-ratio (e .ratio)) (shared .0)) .1;
-      rate = leb-true (e .rights .rate) largest-rate (not-false (is-rate (e .rights .rate)) (offered .0)) }
+      rate = leb-true (e .rights .rate) largest-rate (not-false (is-rate (e .rights .rate)) (offered .0));
+    }

@@ -50,7 +50,8 @@ next-series a e t =
       level = next-level a e t;
       expiry = t .series .expiry;
       right = t .series .right;
-      strike = t .series .strike }
+      strike = t .series .strike;
+    }
 
 abbrev pub next-terms : Answers → Event → Terms → Terms
 next-terms a e t =
@@ -60,7 +61,8 @@ next-terms a e t =
       units = next-units e (t .units);
       «strike_lot» = t .«strike_lot»;
       cash = next-cash a e t;
-      claim = next-claim e t }
+      claim = next-claim e t;
+    }
 
 abbrev pub adjusted : Answers → Event → Terms → Adjusted
 adjusted a e t = record { terms = next-terms a e t; booked = booked-part a e t }

@@ -1,10 +1,9 @@
 -- A product family: the answers by which alone the book knows it, and the law that they keep.
 use mathlib.Core.Path.{_≡_}
 use mathlib.Core.Bool.{Bool, true, _&&_}
-use Prim.Native.Nat.{ℕ, _+_, _≤_, _<_}
-use lib.Dec.{T}
+use Prim.Native.Nat.{ℕ, _+_, _≤_}
 use Rattle.std.specs.declared.option.Option.{Option}
-use Rattle.std.specs.declared.option.Option.the-variants.{Some, None}
+use Rattle.std.specs.declared.option.Option.the-variants.{Some}
 use Rattle.terms.specs.Units.{last-level, largest-units, largest-price, largest-value, is-units, is-price, is-lot-cash, is-claim}
 use Rattle.terms.specs.declared.right.Right.{Right}
 use Rattle.terms.specs.declared.event.Event.{Event}
@@ -37,11 +36,13 @@ abbrev pub priced : Answers → Lot → ℕ → Bool
 priced a l price = a .fits (l .right) (l .strike) && (lot-fits l && is-price price)
 
 pub record Law (a : Answers) : Type 0 where
-  -- ten letters: each level up to 9 has one, reading undoes writing, writing undoes reading
+  -- ten letters, all different: each level up to 9 has one and no other has,
+  -- reading undoes writing and writing undoes reading
   pub lettered : (n : ℕ) → n ≤ last-level → (c : ℕ) × (a .letter n ≡ Some c)
   pub ten : (n c : ℕ) → a .letter n ≡ Some c → n ≤ last-level
   pub reads : (n c : ℕ) → a .letter n ≡ Some c → a .level c ≡ Some n
   pub writes : (n c : ℕ) → a .level c ≡ Some n → a .letter n ≡ Some c
+  pub differ : (m n c : ℕ) → a .letter m ≡ Some c → a .letter n ≡ Some c → m ≡ n
   pub lot-least : 1 ≤ a .largest
   pub lot-most : a .largest ≤ largest-units
   pub strikes : (r : Right) (strike : ℕ) → a .fits r strike ≡ true → strike ≤ largest-price
@@ -49,7 +50,3 @@ pub record Law (a : Answers) : Type 0 where
   pub trade-in : (l : Lot) (price : ℕ) → priced a l price ≡ true → a .trade l price ≤ largest-value
   pub mark-in : (l : Lot) (price : ℕ) → priced a l price ≡ true → a .mark l price ≤ largest-value
   pub final-in : (l : Lot) (price dollars : ℕ) → priced a l price ≡ true → is-claim dollars ≡ true → a .final l price dollars ≤ largest-value
-
--- no letter stands for two levels
-abbrev pub Letters-differ : Answers → Type 0
-Letters-differ a = (m n c : ℕ) → a .letter m ≡ Some c → a .letter n ≡ Some c → m ≡ n

@@ -33,4 +33,5 @@ futures =
       booked = λ amount. amount;
       trade = futures-value;
       mark = futures-value;
-      final = λ l price dollars. futures-value l price + dollars * 1000000 }
+      final = λ l price dollars. futures-value l price + dollars * 1000000;
+    }

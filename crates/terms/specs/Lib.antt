@@ -7,7 +7,9 @@ pub mod Letters
 pub mod Family
 pub mod Futures
 pub mod Options
+pub mod Reading
 pub mod Reference
 pub mod Terms
 pub mod Adjust
 pub mod Worth
+pub mod Figures

@@ -40,4 +40,5 @@ options =
       booked = λ amount. 0;
       trade = λ l price. price * l .«strike_lot»;
       mark = λ l price. 0;
-      final = λ l price dollars. exercised (l .right) (delivered l price dollars) (struck l) }
+      final = λ l price dollars. exercised (l .right) (delivered l price dollars) (struck l);
+    }

@@ -29,4 +29,5 @@ lot-of t =
       strike = t .series .strike;
       units = t .units;
       «strike_lot» = t .«strike_lot»;
-      cash = t .cash }
+      cash = t .cash;
+    }

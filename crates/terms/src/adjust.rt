@@ -7,13 +7,14 @@ ghost use Rattle.terms.specs.Events.{event-outside};
 ghost use Rattle.terms.specs.Terms.{terms-fit};
 ghost use Rattle.terms.specs.Adjust.{next-claim, next-series, next-stock, adjusted, lot-misfits, claim-in-the-way, line-refusals};
 ghost use Rattle.terms.specs.Worth.{Worth-kept};
-
 use crate::claim::Claim;
 use crate::code::Series;
 use crate::event::Event;
 use crate::family::Family;
 use crate::refusal::Refusal;
 use crate::terms::Terms;
+use crate::units::Billionths;
+use crate::units::CashPerShare;
 use crate::units::Dollars;
 use crate::units::LARGEST_LOT_CASH;
 use crate::units::LAST_LEVEL;
@@ -55,11 +56,12 @@ impl Terms {
         requires inside { ⌜ event-outside (now event) ≡ false ⌝ }
         ensures { λ r. ⌜ r ≡ adjusted (F·Family .answers) (now (event .entry)) (now (self .entry)) ⌝ }
     {
+        let units = scaled(self.units, event.ratio);
         let (kept, booked) = F::split(cash_amount(self.units, event.cash));
         let terms = Terms {
             series: self.next_series::<F>(event),
             stock: self.next_stock(event),
-            units: scaled(self.units, event.ratio),
+            units,
             strike_lot: self.strike_lot,
             cash: self.cash + kept,
             claim: self.next_claim(event),
@@ -79,15 +81,33 @@ impl Terms {
         ensures { λ r. ⌜ r ≡ next-series (F·Family .answers) (now (event .entry)) (now (self .entry)) ⌝ }
     {
         let old = self.series;
-        let level = if F::moves(event) { old.level + 1 } else { old.level };
-        let prefix = if event.successor.is_absent() { old.prefix } else { event.successor.prefix };
-        Series { prefix, level, expiry: old.expiry, right: old.right, strike: old.strike }
+        let level = if F::moves(event) {
+            old.level + 1
+        } else {
+            old.level
+        };
+        let prefix = if event.successor.is_absent() {
+            old.prefix
+        } else {
+            event.successor.prefix
+        };
+        Series {
+            prefix,
+            level,
+            expiry: old.expiry,
+            right: old.right,
+            strike: old.strike,
+        }
     }
 
     fn next_stock(&self, event: &Event) -> u32
         ensures { λ r. ⌜ r ≡ next-stock (now (event .entry)) (now (self .entry)) ⌝ }
     {
-        if event.successor.is_absent() { self.stock } else { event.successor.stock }
+        if event.successor.is_absent() {
+            self.stock
+        } else {
+            event.successor.stock
+        }
     }
 
     fn next_claim(&self, event: &Event) -> Claim
@@ -98,7 +118,11 @@ impl Terms {
         if rights.are_absent() {
             return self.claim;
         }
-        Claim::Open { units: scaled(self.units, rights.rate), price: rights.price, deadline: rights.deadline }
+        Claim::Open {
+            units: scaled(self.units, rights.rate),
+            price: rights.price,
+            deadline: rights.deadline,
+        }
     }
 
     fn has_claim_in_the_way(&self, event: &Event) -> bool
@@ -106,16 +130,18 @@ impl Terms {
     {
         match self.claim {
             Claim::Absent => false,
-            Claim::Open { units: _, price: _, deadline: _ } => {
-                !event.rights.are_absent() || !event.successor.is_absent()
-            }
+            Claim::Open {
+                units: _,
+                price: _,
+                deadline: _,
+            } => { !event.rights.are_absent() || !event.successor.is_absent() }
             Claim::Fixed { dollars: _ } => !event.rights.are_absent(),
         }
     }
 }
 
 // Share units times a ratio or a rate, the fraction dropped.
-fn scaled(units: ShareUnits, billionths: u64) -> ShareUnits
+fn scaled(units: ShareUnits, billionths: Billionths) -> ShareUnits
     requires { ⌜ units ≤ 400000000 ⌝ ∗ ⌜ billionths ≤ 10000000000 ⌝ }
     ensures { λ r. ⌜ r ≡ units * billionths / 1000000000 ⌝ }
 {
@@ -123,10 +149,9 @@ fn scaled(units: ShareUnits, billionths: u64) -> ShareUnits
 }
 
 // The dollars paid on so many share units, the fraction dropped.
-fn cash_amount(units: ShareUnits, cash: u32) -> Dollars
-    requires { ⌜ units ≤ 400000000 ⌝ ∗ ⌜ cash ≤ 500000000 ⌝ }
+fn cash_amount(units: ShareUnits, cash: CashPerShare) -> Dollars
     ensures value { λ r. ⌜ r ≡ units * cash / 10000000000 ⌝ }
-    ensures most { λ r. ⌜ r ≤ 20000000 ⌝ }
+    ensures most { λ r. ⌜ r ≤ 1844674407 ⌝ }
 {
     (units as u64 * cash as u64 / 10_000_000_000) as Dollars
 }

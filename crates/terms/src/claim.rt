@@ -1,7 +1,6 @@
 //! The claim of a lot on a subscription right.
 ghost use mathlib.Core.Path.{_≡_};
 ghost use Rattle.terms.specs.Claims.{claim-dollars, subscription-dollars};
-
 use crate::units::Cents;
 use crate::units::Day;
 use crate::units::Dollars;
@@ -28,7 +27,11 @@ impl Claim {
     {
         match *self {
             Claim::Absent => 0,
-            Claim::Open { units, price, deadline: _ } => subscribed(units, price, close),
+            Claim::Open {
+                units,
+                price,
+                deadline: _,
+            } => subscribed(units, price, close),
             Claim::Fixed { dollars } => dollars as u64,
         }
     }

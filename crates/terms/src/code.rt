@@ -1,11 +1,11 @@
 //! Codes and names, as a call gives them and as a line bears them.
 ghost use mathlib.Core.Path.{_≡_};
 ghost use Rattle.terms.specs.Names.{is-capital, is-prefix, no-prefix};
-
 use crate::right::Right;
+use crate::right::RightPartialEq;
 use crate::units::Cents;
 use crate::units::Day;
-use crate::right::RightPartialEq;
+use std::fmt;
 
 /// The two capitals that a stock's codes begin with.
 #[derive(Clone, Copy, PartialEq, Eq)]
@@ -60,4 +60,12 @@ fn is_capital(byte: u8) -> bool
     ensures { λ r. ⌜ r ≡ is-capital byte ⌝ }
 {
     b'A' <= byte && byte <= b'Z'
+}
+
+pub impl fmt::Display for Prefix as PrefixDisplay {
+    fn fmt<W: fmt::Write>(&self, f: &mut fmt::Formatter<W>) -> fmt::Result {
+        let first = self.first as char;
+        let second = self.second as char;
+        write!(f, "{first}{second}")
+    }
 }

@@ -2,7 +2,6 @@
 ghost use mathlib.Core.Path.{_≡_};
 ghost use Rattle.terms.specs.Refusals.{answer, first};
 ghost use Rattle.terms.specs.Events.{no-rights, whole-rights, no-successor, whole-successor, cash-alone, event-outside, event-refusals, ill-formed, no-effect};
-
 use crate::code::Prefix;
 use crate::refusal::Refusal;
 use crate::units;
@@ -88,7 +87,10 @@ impl Event {
     pub fn is_cash_alone(&self) -> bool
         ensures { λ r. ⌜ r ≡ cash-alone (now (self .entry)) ⌝ }
     {
-        self.cash != 0 && self.ratio == units::ONE && self.rights.are_absent() && self.successor.is_absent()
+        self.cash != 0
+            && self.ratio == units::ONE
+            && self.rights.are_absent()
+            && self.successor.is_absent()
     }
 
     pub(crate) fn is_outside_units(&self) -> bool
@@ -114,6 +116,9 @@ impl Event {
     fn has_no_effect(&self) -> bool
         ensures { λ r. ⌜ r ≡ no-effect (now (self .entry)) ⌝ }
     {
-        self.cash == 0 && self.ratio == units::ONE && self.rights.are_absent() && self.successor.is_absent()
+        self.cash == 0
+            && self.ratio == units::ONE
+            && self.rights.are_absent()
+            && self.successor.is_absent()
     }
 }

@@ -4,7 +4,6 @@ ghost use mathlib.Core.Bool.{true};
 ghost use Rattle.std.specs.declared.option.Option.the-variants.{Some};
 ghost use Rattle.terms.specs.Family.{Answers, Law, priced};
 ghost use Rattle.terms.specs.Units.{is-claim};
-
 use crate::event::Event;
 use crate::lot::Lot;
 use crate::right::Right;

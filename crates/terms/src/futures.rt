@@ -1,6 +1,5 @@
 //! Stock futures.
 ghost use Rattle.terms.specs.Futures.{futures};
-
 use crate::event::Event;
 use crate::family::Family;
 use crate::lot::Lot;

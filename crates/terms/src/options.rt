@@ -1,6 +1,5 @@
 //! Stock options.
 ghost use Rattle.terms.specs.Options.{options};
-
 use crate::event::Event;
 use crate::family::Family;
 use crate::lot::Lot;
@@ -85,7 +84,8 @@ pub impl Family for Options as OptionsFamily {
     }
 
     fn final_value(lot: &Lot, price: Cents, dollars: Dollars) -> Micros {
-        let delivered = price as u64 * lot.units as u64 + (lot.cash as u64 + dollars as u64) * 1_000_000;
+        let delivered = price as u64 * lot.units as u64
+            + (lot.cash as u64 + dollars as u64) * 1_000_000;
         let struck = lot.strike as u64 * lot.strike_lot as u64;
         match lot.right {
             Right::Without => 0,

@@ -3,7 +3,6 @@ ghost use mathlib.Core.Path.{_≡_};
 ghost use Prim.Native.Nat.{_≤_};
 ghost use Rattle.terms.specs.Refusals.{answer, first, Accepted};
 ghost use Rattle.terms.specs.Reference.{nearest, reference, reference-refusals};
-
 use crate::refusal::Refusal;
 use crate::units;
 use crate::units::Billionths;
@@ -12,7 +11,11 @@ use crate::units::Cents;
 use crate::units::LARGEST_PRICE;
 
 /// The price less the cash, divided by the ratio, to the nearest cent.
-pub fn reference_price(price: Cents, cash: CashPerShare, ratio: Billionths) -> Result<Cents, Refusal>
+pub fn reference_price(
+    price: Cents,
+    cash: CashPerShare,
+    ratio: Billionths,
+) -> Result<Cents, Refusal>
     ensures refusal { λ r. ⌜ answer r ≡ first (reference-refusals price cash ratio) ⌝ }
     ensures value { λ r. ⌜ Accepted r (λ cents. cents ≡ reference price cash ratio) ⌝ }
 {

@@ -2,7 +2,6 @@
 ghost use mathlib.Core.Path.{_≡_};
 ghost use Rattle.terms.specs.Claims.{claim-fits};
 ghost use Rattle.terms.specs.Terms.{series-fits, terms-fit, lot-of};
-
 use crate::claim::Claim;
 use crate::code::Series;
 use crate::lot::Lot;
@@ -53,7 +52,9 @@ impl Terms {
 fn is_series_within_units(series: &Series) -> bool
     ensures { λ r. ⌜ r ≡ series-fits (now (series .entry)) ⌝ }
 {
-    series.level <= units::LAST_LEVEL && units::is_day(series.expiry) && series.strike <= units::LARGEST_PRICE
+    series.level <= units::LAST_LEVEL
+        && units::is_day(series.expiry)
+        && series.strike <= units::LARGEST_PRICE
 }
 
 fn is_claim_within_units(claim: &Claim) -> bool
@@ -61,9 +62,11 @@ fn is_claim_within_units(claim: &Claim) -> bool
 {
     match *claim {
         Claim::Absent => true,
-        Claim::Open { units, price, deadline } => {
-            units <= units::LARGEST_UNITS && units::is_price(price) && units::is_day(deadline)
-        }
+        Claim::Open {
+            units,
+            price,
+            deadline,
+        } => { units <= units::LARGEST_UNITS && units::is_price(price) && units::is_day(deadline) }
         Claim::Fixed { dollars } => dollars <= units::LARGEST_CLAIM,
     }
 }

@@ -18,16 +18,27 @@ pub type Dollars = u32;
 pub type Micros = u64;
 
 pub const LAST_DAY: Day = 60_000;
+
 pub const LARGEST_PRICE: Cents = 1_000_000;
+
 pub const LARGEST_UNITS: ShareUnits = 400_000_000;
+
 pub const LARGEST_RATIO: Billionths = 10_000_000_000;
+
 pub const LARGEST_RATE: Billionths = 1_000_000_000;
+
 pub const LARGEST_CASH: CashPerShare = 500_000_000;
+
 pub const LARGEST_LOT_CASH: Dollars = 100_000_000;
+
 pub const LARGEST_CLAIM: Dollars = 400_000_000;
+
 pub const LARGEST_VALUE: Micros = 1_000_000_000_000_000;
+
 pub const MOST_LOTS: u16 = 4_000;
+
 pub const MOST_EQUITY: i64 = 4_000_000_000_000_000_000;
+
 pub const LAST_LEVEL: u8 = 9;
 
 /// The ratio of an event that leaves the number of shares as it is.

@@ -2,11 +2,8 @@ use native.Mathlib.Omega.{arith}
 use Rattle.terms.proofs.Tests.{terms-parts, event-parts}
 use Rattle.terms.proofs.terms.Terms.after.Needs as need
 
-pub cash-amount-requires : need.cash-amount-requires
-cash-amount-requires g c κs = (terms-parts (c .args .self .now) (c .pre .within) .units-most, event-parts (c .args .event .now) (c .pre .inside) .cash)
-
-pub scaled-requires : need.scaled-requires
-scaled-requires g c κs = (terms-parts (c .args .self .now) (c .pre .within) .units-most, event-parts (c .args .event .now) (c .pre .inside) .ratio)
+pub scaled-units-requires : need.scaled-units-requires
+scaled-units-requires g c κs = (terms-parts (c .args .self .now) (c .pre .within) .units-most, event-parts (c .args .event .now) (c .pre .inside) .ratio)
 
 -- the kept part is no more than the amount
 pub add-terms : need.add-terms

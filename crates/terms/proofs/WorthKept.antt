@@ -36,9 +36,9 @@ rounded : (q n d r s : ℕ) → 2 * d * r + s ≡ 2 * n + d → 2 * (q * n) + q 
 rounded q n d r s h =
     let left : q * (2 * n + d) ≡ 2 * (q * n) + q * d = mul-add q (2 * n) d ∙ ap (λ x. x + q * d) (out q 2 n) in
     let right : q * (2 * d * r + s) ≡ 2 * (r * (q * d)) + q * s =
-      mul-add q (2 * d * r) s
-      ∙ ap (λ x. x + q * s)
-        (ap (λ x. q * x) (mul-assoc 2 d r) ∙ out q 2 (d * r) ∙ ap (λ x. 2 * x) (ap (λ x. q * x) (mul-comm d r) ∙ out q r d)) in
+    mul-add q (2 * d * r) s
+    ∙ ap (λ x. x + q * s)
+    (ap (λ x. q * x) (mul-assoc 2 d r) ∙ out q 2 (d * r) ∙ ap (λ x. 2 * x) (ap (λ x. q * x) (mul-comm d r) ∙ out q r d)) in
     sym left ∙ ap (λ x. q * x) (sym h) ∙ right
 
 -- the dropped part of the new units, by the reference price
@@ -54,25 +54,25 @@ twice q s d h = let k : q * s ≤ q * (2 * d) = mul-le-mul-left q (omega arith) 
 -- the products of the proof, as plain numbers, are related by what the divisions leave:
 -- 10^9 worth-before - 10^9 worth-after = q (N - R r) + 10^5 u + R t
 weigh :
-  (pq qn qc qr qrr qs rq rt q' amount t u r : ℕ) →
-  1000000000 * pq ≡ qn + 100000 * qc →
-  qc ≡ 10000000000 * amount + u →
-  u < 10000000000 →
-  2 * qn + qr ≡ 2 * qrr + qs →
-  qs ≤ 2 * qr →
-  qr ≡ 1000000000 * q' + t →
-  t < 1000000000 →
-  qrr ≡ 1000000000 * rq + rt →
-  rt + r ≤ 1000000000 * r →
-  1 ≤ r →
-  2 * ((pq - (rq + amount * 1000000)) + ((rq + amount * 1000000) - pq)) < 2000000 + 2 * r + q' + 1
+    (pq qn qc qr qrr qs rq rt q' amount t u r : ℕ) →
+    1000000000 * pq ≡ qn + 100000 * qc →
+    qc ≡ 10000000000 * amount + u →
+    u < 10000000000 →
+    2 * qn + qr ≡ 2 * qrr + qs →
+    qs ≤ 2 * qr →
+    qr ≡ 1000000000 * q' + t →
+    t < 1000000000 →
+    qrr ≡ 1000000000 * rq + rt →
+    rt + r ≤ 1000000000 * r →
+    1 ≤ r →
+    2 * ((pq - (rq + amount * 1000000)) + ((rq + amount * 1000000) - pq)) < 2000000 + 2 * r + q' + 1
 weigh pq qn qc qr qrr qs rq rt q' amount t u r e1 e2 h1 e3 h2 e4 h3 e5 h4 h5 = omega arith
 
 module _ (q p c d : ℕ) (hc : c ≤ p * 10000) (hd : 1 ≤ d) (hr : 1 ≤ reference p c d) where
   -- at one lot, with the amount that is paid on it
   near :
-    2 * distance (p * q) (reference p c d * (q * d / 1000000000) + q * c / 10000000000 * 1000000)
-    < 2000000 + 2 * reference p c d + q * d / 1000000000 + 1
+      2 * distance (p * q) (reference p c d * (q * d / 1000000000) + q * c / 10000000000 * 1000000)
+      < 2000000 + 2 * reference p c d + q * d / 1000000000 + 1
   near =
       let n = without-cash p c in
       let r = reference p c d in
@@ -98,17 +98,17 @@ module _ (q p c d : ℕ) (hc : c ≤ p * 10000) (hd : 1 ≤ d) (hr : 1 ≤ refer
 
 -- cash that stays in the lot or is booked weighs alike
 same-cash :
-  (pq rq cash kept booked amount bound : ℕ) →
-  kept + booked ≡ amount →
-  2 * distance pq (rq + amount * 1000000) < bound →
-  2 * distance (pq + cash * 1000000) (rq + (cash + kept + booked) * 1000000) < bound
+    (pq rq cash kept booked amount bound : ℕ) →
+    kept + booked ≡ amount →
+    2 * distance pq (rq + amount * 1000000) < bound →
+    2 * distance (pq + cash * 1000000) (rq + (cash + kept + booked) * 1000000) < bound
 same-cash pq rq cash kept booked amount bound e h = omega arith
 
 -- what it means to have a reference price
 priced :
-  (p c d : ℕ) →
-  first (reference-refusals p c d) ≡ 0 →
-  (c ≤ p * 10000) × (1 ≤ d) × (1 ≤ reference p c d)
+    (p c d : ℕ) →
+    first (reference-refusals p c d) ≡ 0 →
+    (c ≤ p * 10000) × (1 ≤ d) × (1 ≤ reference p c d)
 priced p c d h =
     let given = is-price p && (is-cash c && is-ratio d) in
     let inside = passed 2 (not given) ((7, no-reference p c d) ∷ []) (omega arith) h in
@@ -116,10 +116,11 @@ priced p c d h =
     let units = and-parts (is-price p) (is-cash c && is-ratio d) (not-false given (inside .0)) in
     let ratio = and-parts (is-cash c) (is-ratio d) (units .1) in
     let either = or-parts (leb (p * 10000) c) (not (is-price (reference p c d))) (found .0) in
-    let above : c < p * 10000 = leb-false (p * 10000) c (either .0) in
-    (omega arith
-    , between-parts 1 largest-ratio d (ratio .1) .0
-    , between-parts 1 largest-price (reference p c d) (not-false (is-price (reference p c d)) (either .1)) .0)
+    let above : c < p * 10000 = leb-false (p * 10000) c (either .0) in (
+      omega arith,
+      between-parts 1 largest-ratio d (ratio .1) .0,
+      between-parts 1 largest-price (reference p c d) (not-false (is-price (reference p c d)) (either .1)) .0,
+    )
 
 pub worth-kept : (a : Answers) → Law a → (e : Event) (t : Terms) → Worth-kept e t (adjusted a e t)
 worth-kept a law e t price h =

@@ -1,0 +1,4 @@
+mod DateText
+mod Days
+mod Digits
+mod Trims

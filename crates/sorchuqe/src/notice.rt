@@ -1,0 +1,202 @@
+//! What the exchange's notice would say of a line.
+use crate::fault::Fault;
+use crate::fault::FaultFromAlloc;
+use crate::fault::FaultFromFmt;
+use crate::fault::FaultFromRefusal;
+use crate::request::Book;
+use crate::request::Request;
+use notation::Date;
+use notation::DateDisplay;
+use notation::Decimal;
+use notation::DecimalDisplay;
+use std::alloc::Global;
+use std::fmt::Write;
+use terms::adjust::Adjusted;
+use terms::claim::Claim;
+use terms::code::Name;
+use terms::code::PrefixDisplay;
+use terms::code::Series;
+use terms::event::Event;
+use terms::family::Family;
+use terms::futures::Futures;
+use terms::futures::FuturesFamily;
+use terms::options::Options;
+use terms::options::OptionsFamily;
+use terms::reference::reference_price;
+use terms::refusal::Refusal;
+use terms::terms::Terms;
+use terms::units::Cents;
+use terms::units::LAST_DAY;
+
+/// A line before and after an event, and a price with its reference price.
+#[derive(Clone, Copy)]
+struct Outcome {
+    before: Terms,
+    after: Adjusted,
+    prices: Option<(Cents, Cents)>,
+}
+
+pub fn notice(heap: Global, request: &Request) -> Result<String, Fault> {
+    match request.book {
+        Book::Futures => written::<Futures>(heap, request, &outcome::<Futures>(request, 0, 0)?),
+        Book::Options => written::<Options>(heap, request, &outcome::<Options>(request, 1, 1)?),
+    }
+}
+
+// An event does not depend on a line's expiry, right or strike: any that fit the family will do.
+fn outcome<F: Family>(request: &Request, right: u8, strike: Cents) -> Result<Outcome, Refusal> {
+    let event = request.event;
+    let name = Name {
+        code: request.code,
+        expiry: LAST_DAY,
+        right,
+        strike,
+    };
+    let series = name.read::<F>();
+    let judged = event.judge(request.day);
+    let prices = referred(request.price, &event);
+    smallest(&[series.err(), judged.err(), prices.err()])?;
+    let before = Terms {
+        series: series?,
+        stock: event.stock,
+        units: request.units,
+        strike_lot: request.units,
+        cash: request.cash,
+        claim: request.claim,
+    };
+    Ok(Outcome {
+        before,
+        after: before.adjust::<F>(&event)?,
+        prices: prices?,
+    })
+}
+
+fn referred(price: Option<Cents>, event: &Event) -> Result<Option<(Cents, Cents)>, Refusal> {
+    match price {
+        Some(price) => Ok(Some((price, reference_price(price, event.cash, event.ratio)?))),
+        None => Ok(None),
+    }
+}
+
+// Where several refusals fit, the smallest number is given.
+fn smallest(refusals: &[Option<Refusal>]) -> Result<(), Refusal> {
+    let mut least: Option<Refusal> = None;
+    for refusal in refusals {
+        least = match (least, *refusal) {
+            (Some(a), Some(b)) if b.number() < a.number() => Some(b),
+            (None, found) => found,
+            (kept, _) => kept,
+        };
+    }
+    match least {
+        Some(refusal) => Err(refusal),
+        None => Ok(()),
+    }
+}
+
+fn written<F: Family>(heap: Global, request: &Request, outcome: &Outcome) -> Result<String, Fault> {
+    let old = code_text::<F>(heap, &outcome.before.series)?;
+    let new = code_text::<F>(heap, &outcome.after.terms.series)?;
+    let mut out = String::new(heap);
+    if old.as_str() == new.as_str() {
+        writeln!(out, "code              {old}, as before")?;
+    } else {
+        writeln!(out, "code              {old} becomes {new}")?;
+    }
+    let shares = share_text(heap, outcome.after.terms.units)?;
+    writeln!(out, "shares in a lot   {shares}")?;
+    let cash = dollar_text(heap, outcome.after.terms.cash)?;
+    writeln!(out, "cash in the lot   {cash}")?;
+    writeln!(
+        out,
+        "entry             {}",
+        entry_text(heap, outcome.after.booked)?
+    )?;
+    writeln!(
+        out,
+        "claim             {}",
+        claim_text(heap, request, &outcome.after.terms.claim)?
+    )?;
+    if let Some((price, reference)) = outcome.prices {
+        let price = price_text(heap, price)?;
+        let reference = price_text(heap, reference)?;
+        writeln!(out, "reference price   {price} becomes {reference}")?;
+    }
+    Ok(out)
+}
+
+/// A code, as CNA.
+pub fn code_text<F: Family>(heap: Global, series: &Series) -> Result<String, Fault> {
+    let prefix = series.prefix;
+    let letter = F::letter(series.level).unwrap_or('?');
+    Ok(format!(heap, "{prefix}{letter}")?)
+}
+
+/// Shares, as 2,073.9967.
+pub fn share_text(heap: Global, units: u32) -> Result<String, Fault> {
+    let shares = Decimal {
+        value: units as u64,
+        places: 4,
+    }.trimmed();
+    Ok(format!(heap, "{shares}")?)
+}
+
+/// A price, as 38.40.
+pub fn price_text(heap: Global, cents: u32) -> Result<String, Fault> {
+    let price = Decimal {
+        value: cents as u64,
+        places: 2,
+    };
+    Ok(format!(heap, "{price}")?)
+}
+
+/// Dollars, as 3,200 dollars.
+pub fn dollar_text(heap: Global, dollars: u32) -> Result<String, Fault> {
+    if dollars == 0 {
+        return Ok(String::from_str(heap, "none")?);
+    }
+    let dollars = Decimal {
+        value: dollars as u64,
+        places: 0,
+    };
+    Ok(format!(heap, "{dollars} dollars")?)
+}
+
+fn entry_text(heap: Global, booked: u32) -> Result<String, Fault> {
+    if booked == 0 {
+        return Ok(String::from_str(heap, "none")?);
+    }
+    let dollars = Decimal {
+        value: booked as u64,
+        places: 0,
+    };
+    Ok(
+        format!(
+            heap,
+            "+{dollars} dollars to each lot bought, -{dollars} dollars to each lot sold"
+        )?,
+    )
+}
+
+// The claim that the event opens; one that it leaves alone is told by its kind.
+fn claim_text(heap: Global, request: &Request, claim: &Claim) -> Result<String, Fault> {
+    match *claim {
+        Claim::Absent => Ok(String::from_str(heap, "none")?),
+        Claim::Fixed { dollars: _ } => Ok(String::from_str(heap, "fixed, as before")?),
+        Claim::Open {
+            units: _,
+            price: _,
+            deadline: _,
+        } if request.event.rights.rate == 0 => { Ok(String::from_str(heap, "open, as before")?) }
+        Claim::Open {
+            units,
+            price,
+            deadline,
+        } => {
+            let shares = share_text(heap, units)?;
+            let price = price_text(heap, price)?;
+            let date = Date::from_day(deadline);
+            Ok(format!(heap, "on {shares} shares at {price}, payable until {date}")?)
+        }
+    }
+}
