@@ -25,7 +25,7 @@ use lib.Dec.{eqb, ltb, lit≤}
 use lib.ListN.{length, getD, take, drop}
 use mathlib.Core.Bool.{true, false, _&&_, cond}
 use mathlib.Core.List.{List, [], _∷_}
-use mathlib.Core.Path.{_≡_, refl, sym, ap, _∙_}
+use mathlib.Core.Path.{_≡_, sym, ap, _∙_}
 use native.Mathlib.Nat.{le-mul-of-pos-right, one-le-pow}
 use native.Mathlib.Omega.{arith}
 
@@ -39,7 +39,7 @@ number-short ds k h short = value-short own ds k h short
 pub numeral-short : (ds : List ℕ) (k : ℕ) → numeral ds ≡ true → length ds ≤ k → number 0 ds < 10 ^ k
 numeral-short ds k h short = number-short ds k (and-parts (ltb 0 (length ds)) (allDigits ds) h .1) short
 
-pub number-from : (n : ℕ) (ds : List ℕ) → n ≤ number n ds
+number-from : (n : ℕ) (ds : List ℕ) → n ≤ number n ds
 number-from n [] = omega arith
 number-from n (c ∷ cs) = omega (arith, number-from (10 * n + (c - 48)) cs)
 

@@ -7,7 +7,7 @@ use Rattle.std.specs.declared.option.Option.the-variants.{Some, None}
 use lib.Dec.{eqb, leb, ltb}
 use lib.ListN.{length, getD, take, drop}
 use mathlib.Core.Bool.{Bool, not, _&&_, _||_, cond}
-use mathlib.Core.List.{List, _∷_}
+use mathlib.Core.List.{List}
 
 -- each fourth year, but of the full centuries only each fourth
 abbrev pub leap : ℕ → Bool
@@ -48,7 +48,7 @@ day-number d = days-before-year (d .year) + days-before-month (d .year) (d .mont
 abbrev pub to-day : Date → Option ℕ
 to-day d = cond (real d && ltb (day-number d) (2 ^ 16)) (Some (day-number d)) None
 
--- ten bytes: four digits, two and two, with a dash between, which is byte 45
+-- ten bytes, with a dash, which is byte 45, after four of them and after two more
 abbrev pub dashed : List ℕ → Bool
 dashed text = eqb (length text) 10 && (eqb (getD text 4 0) 45 && eqb (getD text 7 0) 45)
 
@@ -68,6 +68,7 @@ written-date text = record {
   day = number 0 (day-part text);
 }
 
+-- four digits, two and two, and the day of the date that they write
 abbrev pub read-date : List ℕ → Option ℕ
 read-date text =
     cond (dashed text && (numeral (year-part text) && (numeral (month-part text) && numeral (day-part text))))

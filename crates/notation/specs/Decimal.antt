@@ -7,11 +7,11 @@ use Rattle.std.specs.declared.option.Option.{Option}
 use Rattle.std.specs.declared.option.Option.the-variants.{Some, None}
 use Rattle.std.specs.Options.{okOr}
 use Rattle.std.specs.declared.result.Result.{Result}
-use Rattle.std.specs.declared.result.Result.the-variants.{Ok, Err}
+use Rattle.std.specs.declared.result.Result.the-variants.{Err}
 use Rattle.std.specs.shelf.Text.{allDigits}
-use lib.Dec.{eqb, leb, ltb}
+use lib.Dec.{eqb, ltb}
 use lib.ListN.{length, take, drop}
-use mathlib.Core.Bool.{Bool, true, false, not, _&&_, _||_, cond}
+use mathlib.Core.Bool.{Bool, _&&_, _||_, cond}
 use mathlib.Core.List.{List, [], _∷_}
 
 -- one digit or more
@@ -52,6 +52,7 @@ units whole decimals places =
     cond (ltb places (length decimals)) (Err TooManyDecimals)
     (cond (ltb 18 places) (Err TooLarge) (okOr (fitted (worth whole decimals places)) TooLarge))
 
+-- what is no decimal is told before all else
 abbrev pub read-decimal : List ℕ → ℕ → Result ℕ Misread
 read-decimal text places = cond (decimal text) (units (before-point text) (after-point text) places) (Err NotANumber)
 

@@ -19,7 +19,7 @@ pub struct Date {
 }
 
 impl Date {
-    // The date of a day.
+    // The date of a day, the only one that has it.
     pub fn from_day(day: u16) -> Date
         ensures named { λ r. ⌜ to-day r ≡ Some day ⌝ }
         ensures only { λ r. ⌜ ((d : Date) → to-day d ≡ Some day → d ≡ r) ⌝ }

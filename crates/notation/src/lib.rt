@@ -10,6 +10,7 @@ pub use dates::DateDisplay;
 pub use dates::DatePartialEq;
 pub use dates::read_date;
 pub use numbers::Decimal;
+pub use numbers::DecimalDebug;
 pub use numbers::DecimalDisplay;
 pub use numbers::DecimalPartialEq;
 pub use numbers::Misread;

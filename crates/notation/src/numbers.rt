@@ -1,4 +1,4 @@
-// Decimal numbers: read exactly, in units of a power of ten.
+// Decimal numbers: read exactly in units of a power of ten, and written again.
 ghost use Prim.Native.Nat.{_/_, _%_, _^_, _≤_};
 ghost use Rattle.notation.specs.Decimal.{number, numeral, point, worth, fitted, units, read-decimal, trim};
 ghost use Rattle.std.specs.shelf.Text.{allDigits};
@@ -26,7 +26,7 @@ pub impl fmt::Display for Misread as MisreadDisplay {
     }
 }
 
-// Reads a number such as "78" or "0.05", in units of 10^-places.
+// Reads a number such as 78 or 0.05, exactly, in units of 10^-places.
 pub fn read_decimal(text: &[u8], places: u8) -> Result<u64, Misread>
     ensures { λ r. ⌜ r ≡ read-decimal (now (text .entry)) places ⌝ }
 {

@@ -10,7 +10,7 @@ use std::alloc::Global;
 use terms::figures::published_figures;
 
 /// What the program prints for the words of its command line.
-pub fn answer(heap: Global, words: &[&str]) -> Result<String, Fault> {
+pub(crate) fn answer(heap: Global, words: &[&str]) -> Result<String, Fault> {
     if words.is_empty() {
         return Err(Fault::Usage(String::from_str(heap, "a command is missing")?));
     }

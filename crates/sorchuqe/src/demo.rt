@@ -50,7 +50,7 @@ lots that were there in July, and no lot changed its worth but by rounding.
 ";
 
 /// A dividend in July, a new listing, and a stock dividend in October.
-pub fn story(heap: Global) -> Result<String, Fault> {
+pub(crate) fn story(heap: Global) -> Result<String, Fault> {
     let mut out = String::from_str(heap, OPENING)?;
     let older = standard()?;
     list(heap, &mut out, LISTED, &older)?;

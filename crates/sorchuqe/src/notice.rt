@@ -36,15 +36,15 @@ struct Outcome {
     prices: Option<(Cents, Cents)>,
 }
 
-pub fn notice(heap: Global, request: &Request) -> Result<String, Fault> {
+pub(crate) fn notice(heap: Global, request: &Request) -> Result<String, Fault> {
     match request.book {
-        Book::Futures => written::<Futures>(heap, request, &outcome::<Futures>(request, 0, 0)?),
-        Book::Options => written::<Options>(heap, request, &outcome::<Options>(request, 1, 1)?),
+        Book::Futures => written::<Futures>(heap, request, &decided::<Futures>(request, 0, 0)?),
+        Book::Options => written::<Options>(heap, request, &decided::<Options>(request, 1, 1)?),
     }
 }
 
 // An event does not depend on a line's expiry, right or strike: any that fit the family will do.
-fn outcome<F: Family>(request: &Request, right: u8, strike: Cents) -> Result<Outcome, Refusal> {
+fn decided<F: Family>(request: &Request, right: u8, strike: Cents) -> Result<Outcome, Refusal> {
     let event = request.event;
     let name = Name {
         code: request.code,
@@ -95,45 +95,60 @@ fn smallest(refusals: &[Option<Refusal>]) -> Result<(), Refusal> {
 }
 
 fn written<F: Family>(heap: Global, request: &Request, outcome: &Outcome) -> Result<String, Fault> {
-    let old = code_text::<F>(heap, &outcome.before.series)?;
-    let new = code_text::<F>(heap, &outcome.after.terms.series)?;
+    let (before, after) = (&outcome.before, &outcome.after.terms);
     let mut out = String::new(heap);
-    if old.as_str() == new.as_str() {
-        writeln!(out, "code              {old}, as before")?;
-    } else {
-        writeln!(out, "code              {old} becomes {new}")?;
-    }
-    let shares = share_text(heap, outcome.after.terms.units)?;
-    writeln!(out, "shares in a lot   {shares}")?;
-    let cash = dollar_text(heap, outcome.after.terms.cash)?;
-    writeln!(out, "cash in the lot   {cash}")?;
-    writeln!(
-        out,
-        "entry             {}",
-        entry_text(heap, outcome.after.booked)?
+    row(
+        &mut out,
+        "code",
+        code_text::<F>(heap, &before.series)?,
+        code_text::<F>(heap, &after.series)?,
     )?;
-    writeln!(
-        out,
-        "claim             {}",
-        claim_text(heap, request, &outcome.after.terms.claim)?
+    row(
+        &mut out,
+        "shares in a lot",
+        share_text(heap, before.units)?,
+        share_text(heap, after.units)?,
     )?;
+    row(
+        &mut out,
+        "cash in the lot",
+        dollar_text(heap, before.cash)?,
+        dollar_text(heap, after.cash)?,
+    )?;
+    let entry = entry_text(heap, outcome.after.booked)?;
+    writeln!(out, "entry             {entry}")?;
+    let claim = claim_text(heap, request, &after.claim)?;
+    writeln!(out, "claim             {claim}")?;
     if let Some((price, reference)) = outcome.prices {
-        let price = price_text(heap, price)?;
-        let reference = price_text(heap, reference)?;
-        writeln!(out, "reference price   {price} becomes {reference}")?;
+        row(
+            &mut out,
+            "reference price",
+            price_text(heap, price)?,
+            price_text(heap, reference)?,
+        )?;
     }
     Ok(out)
 }
 
+// What a part of the contract was, and what it becomes.
+fn row(out: &mut String, label: &str, before: String, after: String) -> Result<(), Fault> {
+    if before.as_str() == after.as_str() {
+        writeln!(out, "{label:<16}  {before}, as before")?;
+    } else {
+        writeln!(out, "{label:<16}  {before} becomes {after}")?;
+    }
+    Ok(())
+}
+
 /// A code, as CNA.
-pub fn code_text<F: Family>(heap: Global, series: &Series) -> Result<String, Fault> {
+pub(crate) fn code_text<F: Family>(heap: Global, series: &Series) -> Result<String, Fault> {
     let prefix = series.prefix;
     let letter = F::letter(series.level).unwrap_or('?');
     Ok(format!(heap, "{prefix}{letter}")?)
 }
 
 /// Shares, as 2,073.9967.
-pub fn share_text(heap: Global, units: u32) -> Result<String, Fault> {
+pub(crate) fn share_text(heap: Global, units: u32) -> Result<String, Fault> {
     let shares = Decimal {
         value: units as u64,
         places: 4,
@@ -142,7 +157,7 @@ pub fn share_text(heap: Global, units: u32) -> Result<String, Fault> {
 }
 
 /// A price, as 38.40.
-pub fn price_text(heap: Global, cents: u32) -> Result<String, Fault> {
+pub(crate) fn price_text(heap: Global, cents: u32) -> Result<String, Fault> {
     let price = Decimal {
         value: cents as u64,
         places: 2,
@@ -151,7 +166,7 @@ pub fn price_text(heap: Global, cents: u32) -> Result<String, Fault> {
 }
 
 /// Dollars, as 3,200 dollars.
-pub fn dollar_text(heap: Global, dollars: u32) -> Result<String, Fault> {
+pub(crate) fn dollar_text(heap: Global, dollars: u32) -> Result<String, Fault> {
     if dollars == 0 {
         return Ok(String::from_str(heap, "none")?);
     }

@@ -57,7 +57,7 @@ const NO_EVENT: Event = Event {
     },
 };
 
-pub fn read(heap: Global, words: &[&str]) -> Result<Request, Fault> {
+pub(crate) fn read(heap: Global, words: &[&str]) -> Result<Request, Fault> {
     if words.len() < 3 {
         return usage(
             heap,

@@ -1,4 +1,3 @@
-use Prim.Native.Nat.{_<_}
 use Rattle.notation.proofs.Digits.{numeral-short, large-from-none, same-from-fitted}
 use Rattle.notation.proofs.dates.few_digits.Needs as need
 use Rattle.notation.specs.Decimal.{number}

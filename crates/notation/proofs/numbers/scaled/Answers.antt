@@ -1,4 +1,4 @@
-use Prim.Native.Nat.{_^_, _-_}
+use Prim.Native.Nat.{_-_}
 use Rattle.notation.proofs.Digits.{large-from-none, too-large, le-scaled}
 use Rattle.notation.proofs.numbers.scaled.Needs as need
 use Rattle.notation.specs.Decimal.{number}
