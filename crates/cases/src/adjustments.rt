@@ -130,7 +130,7 @@ use Outcome::Refused;
 
 /// What the exchange has published: its slides on adjustments, its notice of June 2022, the script
 /// of its rehearsal, and its description of option adjustments, which has lots of 1,000 shares.
-const PUBLISHED: [Case; 39] = [
+const PUBLISHED: [Case; 40] = [
     // Slides and rehearsal: a dividend of 3 dollars.
     Case(
         Line(F, b"CDF", LOT, 0, ABSENT),
@@ -212,7 +212,8 @@ const PUBLISHED: [Case; 39] = [
         ),
         Becomes(b"CGA", LOT, 0, 0, 2_000_000),
     ),
-    // The notice: rights to 69.94366435 shares for a thousand, and 1.6 dollars.
+    // The notice: rights to 69.94366435 shares for a thousand, and 1.6 dollars. (The notice leaves the
+    // subscription price to the company; 30.00 is assumed.)
     Case(
         Line(F, b"CSF", LOT, 0, ABSENT),
         Pays(
@@ -395,6 +396,13 @@ const PUBLISHED: [Case; 39] = [
         Line(O, b"AEO", 10_000_000, 0, ABSENT),
         Pays(500_000, 500_000_000, NONE, STAYS),
         Becomes(b"AEA", 5_000_000, 500, 0, 0),
+    ),
+    // Description, second listing example: 200 shares for a thousand and 1 dollar a share. (The paper
+    // prints 100 dollars; 1 dollar on 1,000 shares is 1,000.)
+    Case(
+        Line(O, b"AAO", 10_000_000, 0, ABSENT),
+        Pays(1_000_000, 1_200_000_000, NONE, STAYS),
+        Becomes(b"AAA", 12_000_000, 1_000, 0, 0),
     ),
 ];
 
@@ -914,8 +922,7 @@ impl Case {
             rights,
             successor,
         };
-        event.judge(TODAY)?;
-        let after = line.adjust::<K>(&event)?;
+        let after = line.adjust::<K>(TODAY, &event)?;
         Ok((after.terms, after.booked))
     }
 }

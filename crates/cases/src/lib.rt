@@ -3,6 +3,8 @@
 #[cfg(test)]
 mod adjustments;
 #[cfg(test)]
+mod edges;
+#[cfg(test)]
 mod names;
 #[cfg(test)]
 mod prices;

@@ -1,7 +1,7 @@
 //! Plain units, and what the families make of a lot.
 use std::test::*;
 use terms::family::Family;
-use terms::figures::published_figures;
+use terms::figures::worked_figures;
 use terms::futures::FuturesFamily;
 use terms::lot::Lot;
 use terms::options::OptionsFamily;
@@ -28,7 +28,7 @@ fn families() -> Result<(), Fail> {
         (OptionsFamily::lot_limit(), OptionsFamily::standard_letter()),
         (200_000_000, 'O'),
     )?;
-    check_eq(published_figures(), 12)
+    check_eq(worked_figures(), 12)
 }
 
 // Slides: a lot bought at 19.00 gains 2,400 dollars at a final price of 20.00 with a claim worth 400.

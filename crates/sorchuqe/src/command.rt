@@ -7,12 +7,12 @@ use crate::notice::notice;
 use crate::request;
 use crate::request::Request;
 use std::alloc::Global;
-use terms::figures::published_figures;
+use terms::figures::worked_figures;
 
 /// What the program prints for the words of its command line.
 pub(crate) fn answer(heap: Global, words: &[&str]) -> Result<String, Fault> {
     if words.is_empty() {
-        return Err(Fault::Usage(String::from_str(heap, "a command is missing")?));
+        return usage(heap, "a command is missing");
     }
     let rest = &words[1..];
     match words[0] {
@@ -22,17 +22,24 @@ pub(crate) fn answer(heap: Global, words: &[&str]) -> Result<String, Fault> {
         "adjust" => notice(heap, &request::read(heap, rest)?),
         "demo" if asks_for_help(rest) => Ok(String::from_str(heap, help::DEMO)?),
         "demo" if rest.is_empty() => demo::story(heap),
-        "demo" => Err(Fault::Usage(String::from_str(heap, "demo takes no arguments")?)),
-        other => Err(Fault::Usage(format!(heap, "there is no command '{other}'")?)),
+        "demo" => usage(heap, "demo takes no arguments"),
+        other => usage(
+            heap,
+            format!(heap, "there is no command '{other}'")?.as_str(),
+        ),
     }
 }
 
+fn usage(heap: Global, text: &str) -> Result<String, Fault> {
+    Err(Fault::Usage(format!(heap, "{text}\nTry 'sorchuqe --help'.")?))
+}
+
 fn version(heap: Global) -> Result<String, Fault> {
-    let figures = published_figures();
+    let figures = worked_figures();
     Ok(
         format!(
             heap,
-            "sorchuqe 0.1.0, checked against {figures} published figures\n"
+            "sorchuqe 0.1.0, checked against {figures} worked figures\n"
         )?,
     )
 }

@@ -1,4 +1,5 @@
 //! A real task from beginning to end, told as a story.
+use crate::brokers;
 use crate::fault::Fault;
 use crate::fault::FaultFromAlloc;
 use crate::fault::FaultFromFmt;
@@ -64,7 +65,7 @@ pub(crate) fn story(heap: Global) -> Result<String, Fault> {
         &dividend,
         2_530,
     )?;
-    let older = happens(heap, &mut out, &dividend, 2_530, &older)?;
+    let older = happens(heap, &mut out, JULY, &dividend, 2_530, &older)?;
     out.push('\n')?;
 
     let newer = standard()?;
@@ -79,10 +80,11 @@ pub(crate) fn story(heap: Global) -> Result<String, Fault> {
         &shares,
         2_655,
     )?;
-    happens(heap, &mut out, &shares, 2_655, &older)?;
-    happens(heap, &mut out, &shares, 2_655, &newer)?;
+    happens(heap, &mut out, OCTOBER, &shares, 2_655, &older)?;
+    happens(heap, &mut out, OCTOBER, &shares, 2_655, &newer)?;
     out.push('\n')?;
     out.push_str(CLOSING)?;
+    brokers::story(heap, &mut out)?;
     Ok(out)
 }
 
@@ -170,11 +172,12 @@ fn head(
 fn happens(
     heap: Global,
     out: &mut String,
+    day: Day,
     event: &Event,
     price: Cents,
     line: &Terms,
 ) -> Result<Terms, Fault> {
-    let after = line.adjust::<Options>(event)?;
+    let after = line.adjust::<Options>(day, event)?;
     let reference = reference_price(price, event.cash, event.ratio)?;
     let old = code_text::<Options>(heap, &line.series)?;
     let new = code_text::<Options>(heap, &after.terms.series)?;

@@ -21,7 +21,7 @@ pub enum Fault {
 pub impl fmt::Display for Fault as FaultDisplay {
     fn fmt<W: fmt::Write>(&self, f: &mut fmt::Formatter<W>) -> fmt::Result {
         match self {
-            Fault::Usage(text) => write!(f, "{text}\nTry 'sorchuqe --help'."),
+            Fault::Usage(text) => write!(f, "{text}"),
             Fault::Amount(text) => {
                 let refusal = Refusal::OutsideUnits;
                 let number = refusal.number();

@@ -12,8 +12,8 @@ Usage:
 Commands:
   adjust   what one contract becomes on the day of an event: its code, shares,
            cash, entry, claim and reference price, as the exchange's notice has them
-  demo     a dividend and a stock dividend on two generations of an option,
-           told step by step
+  demo     a dividend and a stock dividend on two generations of an option, and
+           two brokers in a book of futures, told step by step
 
 A refused event is told on standard error, with its number and reason, and the
 exit status is then 1.
@@ -32,8 +32,8 @@ Usage:
 What the event does:
   --cash C       dollars paid for each share (up to 6 decimals)
   --ratio R      new shares for one old share (up to 9 decimals); 1 if not given
-  --rate R       shares that may be subscribed for one share; decimals after the
-                 ninth are dropped, as the rules ask
+  --rate R       shares that may be subscribed for one share: 69.94366435 for a
+                 thousand is 0.06994366435; decimals after the ninth are dropped
   --at P         the subscription price (2 decimals)
   --until DATE   the payment deadline, as 2022-08-03
   --into N       the number of the stock that takes the old one's place
@@ -49,7 +49,7 @@ What is known of the contract:
 Examples:
   A dividend of 3 dollars:
     sorchuqe adjust futures CDF 2000 --price 78.00 --cash 3
-  A rights issue with a dividend:
+  A rights issue with a dividend, at an assumed subscription price:
     sorchuqe adjust futures CSF 2000 --cash 1.6 --rate 0.06994366435 \\
       --at 30.00 --until 2022-08-03
   A share conversion, into 0.55 shares of another stock and 11.55 dollars:
@@ -58,7 +58,7 @@ Examples:
 ";
 
 pub const DEMO: &str = "\
-sorchuqe demo: a dividend and a stock dividend, told step by step
+sorchuqe demo: two events and two brokers, told step by step
 
 Usage:
   sorchuqe demo
@@ -66,5 +66,6 @@ Usage:
 A dividend in July makes CNO into CNA with 2,000 dollars in the lot. A new CNO is
 listed. A stock dividend in October moves both one letter on, and each keeps what
 is its own. Each step has the reference price, and the worth of a lot before and
-after it.
+after it. Then two brokers trade futures on the same stock: equities after each
+step, which add up to zero.
 ";

@@ -1,4 +1,5 @@
 //! The program: reads a command line, asks the libraries, prints the answer.
+mod brokers;
 mod command;
 mod demo;
 mod fault;

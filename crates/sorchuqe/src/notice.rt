@@ -52,23 +52,25 @@ fn decided<F: Family>(request: &Request, right: u8, strike: Cents) -> Result<Out
         right,
         strike,
     };
-    let series = name.read::<F>();
-    let judged = event.judge(request.day);
-    let prices = referred(request.price, &event);
-    smallest(&[series.err(), judged.err(), prices.err()])?;
     let before = Terms {
-        series: series?,
+        series: name.read::<F>()?,
         stock: event.stock,
         units: request.units,
         strike_lot: request.units,
         cash: request.cash,
         claim: request.claim,
     };
-    Ok(Outcome {
-        before,
-        after: before.adjust::<F>(&event)?,
-        prices: prices?,
-    })
+    let after = before.adjust::<F>(request.day, &event);
+    let prices = referred(request.price, &event);
+    match (after, prices) {
+        (Ok(after), Ok(prices)) => Ok(Outcome {
+            before,
+            after,
+            prices,
+        }),
+        (Err(refusal), Ok(_)) | (Ok(_), Err(refusal)) => Err(refusal),
+        (Err(a), Err(b)) => Err(smaller(a, b)),
+    }
 }
 
 fn referred(price: Option<Cents>, event: &Event) -> Result<Option<(Cents, Cents)>, Refusal> {
@@ -78,20 +80,9 @@ fn referred(price: Option<Cents>, event: &Event) -> Result<Option<(Cents, Cents)
     }
 }
 
-// Where several refusals fit, the smallest number is given.
-fn smallest(refusals: &[Option<Refusal>]) -> Result<(), Refusal> {
-    let mut least: Option<Refusal> = None;
-    for refusal in refusals {
-        least = match (least, *refusal) {
-            (Some(a), Some(b)) if b.number() < a.number() => Some(b),
-            (None, found) => found,
-            (kept, _) => kept,
-        };
-    }
-    match least {
-        Some(refusal) => Err(refusal),
-        None => Ok(()),
-    }
+// Where two refusals fit, the smaller number is given.
+fn smaller(a: Refusal, b: Refusal) -> Refusal {
+    if a.number() < b.number() { a } else { b }
 }
 
 fn written<F: Family>(heap: Global, request: &Request, outcome: &Outcome) -> Result<String, Fault> {

@@ -1,8 +1,9 @@
 //! What `adjust` is asked, read from its words.
 use crate::fault::Fault;
 use crate::fault::FaultFromAlloc;
+use notation::Decimal;
+use notation::DecimalDisplay;
 use notation::Misread;
-use notation::MisreadDisplay;
 use notation::read_date;
 use notation::read_decimal;
 use std::alloc::Global;
@@ -12,6 +13,10 @@ use terms::code::Prefix;
 use terms::event::Event;
 use terms::event::Rights;
 use terms::event::Successor;
+use terms::futures::Futures;
+use terms::futures::FuturesFamily;
+use terms::options::Options;
+use terms::options::OptionsFamily;
 use terms::refusal::Refusal;
 use terms::units::Cents;
 use terms::units::Day;
@@ -57,6 +62,57 @@ const NO_EVENT: Event = Event {
     },
 };
 
+/// How an amount is written: its decimals, and the least and the most that it may be.
+#[derive(Clone, Copy)]
+struct Unit {
+    places: u8,
+    least: u64,
+    most: u64,
+}
+
+const SHARES: Unit = Unit {
+    places: 4,
+    least: 1,
+    most: 400_000_000,
+};
+
+const PRICE: Unit = Unit {
+    places: 2,
+    least: 1,
+    most: 1_000_000,
+};
+
+const CASH: Unit = Unit {
+    places: 6,
+    least: 0,
+    most: 500_000_000,
+};
+
+const RATIO: Unit = Unit {
+    places: 9,
+    least: 1,
+    most: 10_000_000_000,
+};
+
+const RATE: Unit = Unit {
+    places: 18,
+    least: 0,
+    most: 1_000_000_000_000_000_000,
+};
+
+const DOLLARS: Unit = Unit {
+    places: 0,
+    least: 0,
+    most: 100_000_000,
+};
+
+const NUMBER: Unit = Unit {
+    places: 0,
+    least: 1,
+    most: 4_294_967_295,
+};
+
+/// Reads the words; codes first, since a malformed one is refused before anything else.
 pub(crate) fn read(heap: Global, words: &[&str]) -> Result<Request, Fault> {
     if words.len() < 3 {
         return usage(
@@ -64,21 +120,36 @@ pub(crate) fn read(heap: Global, words: &[&str]) -> Result<Request, Fault> {
             "adjust wants a family, a code and the shares of a lot",
         );
     }
+    let book = read_book(heap, words[0])?;
+    let code = read_code(book, words[1])?;
+    let options = &words[3..];
+    let prefix = read_new_prefix(options)?;
+    let successor = Successor { stock: 0, prefix };
     let mut request = Request {
-        book: read_book(heap, words[0])?,
-        code: read_code(words[1])?,
-        units: read_small(heap, "SHARES", words[2], 4)?,
+        book,
+        code,
+        units: read_small(heap, "SHARES", words[2], SHARES)?,
         cash: 0,
         claim: Claim::Absent,
         day: 0,
         price: None,
-        event: NO_EVENT,
+        event: Event {
+            successor,
+            ..NO_EVENT
+        },
     };
-    for pair in words[3..].chunks(2) {
-        let [option, value] = pair else {
-            return usage(heap, "an option is without its value");
-        };
-        request.set(heap, option, value)?;
+    for pair in options.chunks(2) {
+        match pair {
+            [option, _] if times(options, option) > 1 => {
+                return usage(heap, format!(heap, "{option} is given twice")?.as_str());
+            }
+            [option, value] => request.set(heap, option, value)?,
+            [option] => return usage(
+                heap,
+                format!(heap, "{option} is without its value")?.as_str(),
+            ),
+            _ => {}
+        }
     }
     Ok(request)
 }
@@ -86,13 +157,13 @@ pub(crate) fn read(heap: Global, words: &[&str]) -> Result<Request, Fault> {
 impl Request {
     fn set(&mut self, heap: Global, option: &str, value: &str) -> Result<(), Fault> {
         match option {
-            "--price" => self.price = Some(read_small(heap, option, value, 2)?),
-            "--lot-cash" => self.cash = read_small(heap, option, value, 0)?,
+            "--price" => self.price = Some(read_small(heap, option, value, PRICE)?),
+            "--lot-cash" => self.cash = read_small(heap, option, value, DOLLARS)?,
             "--claim" => self.claim = read_claim(heap, value)?,
             "--day" => self.day = read_day(heap, option, value)?,
-            "--cash" => self.event.cash = read_small(heap, option, value, 6)?,
-            "--ratio" => self.event.ratio = read_amount(heap, option, value, 9)?,
-            "--stock" => self.event.stock = read_small(heap, option, value, 0)?,
+            "--cash" => self.event.cash = read_small(heap, option, value, CASH)?,
+            "--ratio" => self.event.ratio = read_amount(heap, option, value, RATIO)?,
+            "--stock" => self.event.stock = read_small(heap, option, value, NUMBER)?,
             _ => self.set_part(heap, option, value)?,
         }
         Ok(())
@@ -102,10 +173,10 @@ impl Request {
     fn set_part(&mut self, heap: Global, option: &str, value: &str) -> Result<(), Fault> {
         match option {
             "--rate" => self.event.rights.rate = read_rate(heap, value)?,
-            "--at" => self.event.rights.price = read_small(heap, option, value, 2)?,
+            "--at" => self.event.rights.price = read_small(heap, option, value, PRICE)?,
             "--until" => self.event.rights.deadline = read_day(heap, option, value)?,
-            "--into" => self.event.successor.stock = read_small(heap, option, value, 0)?,
-            "--prefix" => self.event.successor.prefix = read_prefix(value)?,
+            "--into" => self.event.successor.stock = read_small(heap, option, value, NUMBER)?,
+            "--prefix" => {}
             _ => return usage(
                 heap,
                 format!(heap, "there is no option '{option}'")?.as_str(),
@@ -116,7 +187,19 @@ impl Request {
 }
 
 fn usage<T>(heap: Global, text: &str) -> Result<T, Fault> {
-    Err(Fault::Usage(String::from_str(heap, text)?))
+    Err(Fault::Usage(format!(heap, "{text}\nTry 'sorchuqe adjust --help'.")?))
+}
+
+// How often an option is given.
+fn times(options: &[&str], option: &str) -> usize {
+    let mut n: usize = 0;
+    for pair in options.chunks(2) {
+        match pair {
+            [other, ..] if *other == option => n = n.saturating_add(1),
+            _ => {}
+        }
+    }
+    n
 }
 
 fn read_book(heap: Global, word: &str) -> Result<Book, Fault> {
@@ -127,28 +210,49 @@ fn read_book(heap: Global, word: &str) -> Result<Book, Fault> {
     }
 }
 
-fn read_code(word: &str) -> Result<Code, Fault> {
-    match word.as_bytes() {
-        [first, second, letter] => {
-            Ok(Code {
-                prefix: Prefix {
-                    first: *first,
-                    second: *second,
-                },
-                letter: *letter,
-            })
-        }
-        _ => Err(Fault::Refused(Refusal::Malformed)),
+fn read_code(book: Book, word: &str) -> Result<Code, Fault> {
+    let [first, second, letter] = word.as_bytes() else {
+        return Err(Fault::Refused(Refusal::Malformed));
+    };
+    let code = Code {
+        prefix: Prefix {
+            first: *first,
+            second: *second,
+        },
+        letter: *letter,
+    };
+    let level = match book {
+        Book::Futures => code.level::<Futures>(),
+        Book::Options => code.level::<Options>(),
+    };
+    match level {
+        Some(_) => Ok(code),
+        None => Err(Fault::Refused(Refusal::Malformed)),
     }
 }
 
+// The prefix of a new stock, or none.
+fn read_new_prefix(options: &[&str]) -> Result<Prefix, Fault> {
+    for pair in options.chunks(2) {
+        if let ["--prefix", word] = pair {
+            return read_prefix(word);
+        }
+    }
+    Ok(NO_EVENT.successor.prefix)
+}
+
 fn read_prefix(word: &str) -> Result<Prefix, Fault> {
-    match word.as_bytes() {
-        [first, second] => Ok(Prefix {
-            first: *first,
-            second: *second,
-        }),
-        _ => Err(Fault::Refused(Refusal::Malformed)),
+    let [first, second] = word.as_bytes() else {
+        return Err(Fault::Refused(Refusal::Malformed));
+    };
+    let prefix = Prefix {
+        first: *first,
+        second: *second,
+    };
+    if prefix.is_well_formed() {
+        Ok(prefix)
+    } else {
+        Err(Fault::Refused(Refusal::Malformed))
     }
 }
 
@@ -169,35 +273,47 @@ fn read_day(heap: Global, option: &str, word: &str) -> Result<Day, Fault> {
         Some(day) => Ok(day),
         None => usage(
             heap,
-            format!(heap, "{option} {word}: not a date such as 2022-08-03")?.as_str(),
+            format!(
+                heap,
+                "{option} {word}: not a date from 2000 on, such as 2022-08-03"
+            )?.as_str(),
         ),
     }
 }
 
-fn read_amount(heap: Global, option: &str, word: &str, places: u8) -> Result<u64, Fault> {
-    match read_decimal(word.as_bytes(), places) {
-        Ok(amount) => Ok(amount),
+fn read_amount(heap: Global, option: &str, word: &str, unit: Unit) -> Result<u64, Fault> {
+    match read_decimal(word.as_bytes(), unit.places) {
+        Ok(amount) if unit.least <= amount && amount <= unit.most => Ok(amount),
         Err(Misread::TooManyDecimals) => {
+            let places = unit.places;
             Err(Fault::Amount(format!(heap, "{option} {word} has more than {places} decimals")?))
         }
-        Err(Misread::TooLarge) => Err(Fault::Amount(
-            format!(heap, "{option} {word} is too large")?,
-        )),
         Err(Misread::NotANumber) => usage(
             heap,
             format!(heap, "{option} {word}: not a number")?.as_str(),
         ),
+        Ok(_) | Err(Misread::TooLarge) => {
+            let least = Decimal {
+                value: unit.least,
+                places: unit.places,
+            }.trimmed();
+            let most = Decimal {
+                value: unit.most,
+                places: unit.places,
+            }.trimmed();
+            Err(Fault::Amount(format!(heap, "{option} {word} is not from {least} to {most}")?))
+        }
     }
 }
 
-fn read_small(heap: Global, option: &str, word: &str, places: u8) -> Result<u32, Fault> {
-    match u32::try_from(read_amount(heap, option, word, places)?) {
+fn read_small(heap: Global, option: &str, word: &str, unit: Unit) -> Result<u32, Fault> {
+    match u32::try_from(read_amount(heap, option, word, unit)?) {
         Ok(amount) => Ok(amount),
-        Err(_) => Err(Fault::Amount(format!(heap, "{option} {word} is too large")?)),
+        Err(_) => Err(Fault::Refused(Refusal::OutsideUnits)),
     }
 }
 
 // Shares for one share, in billionths: what stands after the ninth decimal is dropped.
 fn read_rate(heap: Global, word: &str) -> Result<u64, Fault> {
-    Ok(read_amount(heap, "--rate", word, 15)? / 1_000_000)
+    Ok(read_amount(heap, "--rate", word, RATE)? / 1_000_000_000)
 }

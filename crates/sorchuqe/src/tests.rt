@@ -16,7 +16,7 @@ fn outcome(rt: &LibcRuntime, words: &[&str]) -> u8 {
     }
 }
 
-const LINES: [(&[&str], u8); 28] = [
+const LINES: [(&[&str], u8); 36] = [
     (&["demo"], 0),
     (&["--help"], 0),
     (&["adjust", "--help"], 0),
@@ -45,6 +45,23 @@ const LINES: [(&[&str], u8); 28] = [
     (&["adjust", "futures", "CDF", "2000", "--tax", "3"], 100),
     (
         &["adjust", "futures", "CDF", "2000", "--until", "2022-02-29"],
+        100,
+    ),
+    (
+        &[
+            "adjust",
+            "futures",
+            "CDF",
+            "2000",
+            "--cash",
+            "3",
+            "--cash",
+            "4",
+        ],
+        100,
+    ),
+    (
+        &["adjust", "futures", "CDF", "2000", "--until", "1999-12-31"],
         100,
     ),
     // Refusals, each by its number.
@@ -141,6 +158,63 @@ const LINES: [(&[&str], u8); 28] = [
             "fixed",
         ],
         23,
+    ),
+    // Refusals that compete: the smallest number.
+    (&["adjust", "futures", "CDO", "99999999", "--cash", "3"], 1),
+    (
+        &[
+            "adjust",
+            "futures",
+            "CDF",
+            "2000",
+            "--cash",
+            "3.0000001",
+            "--into",
+            "7",
+            "--prefix",
+            "D",
+        ],
+        1,
+    ),
+    (&["adjust", "futures", "CDF", "50000"], 2),
+    (
+        &[
+            "adjust",
+            "futures",
+            "CDF",
+            "2000",
+            "--lot-cash",
+            "100000001",
+        ],
+        2,
+    ),
+    (
+        &[
+            "adjust",
+            "futures",
+            "CDF",
+            "2000",
+            "--price",
+            "78",
+            "--rate",
+            "0.1",
+        ],
+        4,
+    ),
+    (
+        &[
+            "adjust",
+            "futures",
+            "CN9",
+            "2000",
+            "--ratio",
+            "0.5",
+            "--cash",
+            "78",
+            "--price",
+            "78",
+        ],
+        7,
     ),
 ];
 

@@ -11,7 +11,7 @@ use lib.ListN.{length}
 use Rattle.std.proofs.shelf.Tests.{eqb-true, eq-eqb, cond-true, cond-false, and-parts, or-parts, not-true, both-ways}
 use Rattle.std.specs.declared.option.Option.{Option}
 use Rattle.std.specs.declared.option.Option.the-variants.{Some, None}
-use Rattle.terms.specs.Letters.{letter-in, level-in, next-level}
+use Rattle.terms.specs.Letters.{letter-in, level-in, one-more}
 
 abbrev has : ℕ → List ℕ → Bool
 has c [] = false
@@ -40,13 +40,13 @@ found [] n c h = cc
 found (x ∷ xs) zero c h = let e : x ≡ c = cc in ap (λ b. b || has c xs) (eq-eqb x c e)
 found (x ∷ xs) (suc n) c h = or-found (eqb x c) (has c xs) (found xs n c h)
 
-later : (x : ℕ) (xs : List ℕ) (n c : ℕ) → has x xs ≡ false → has c xs ≡ true → level-in xs c ≡ Some n → (b : Bool) → eqb x c ≡ b → cond b (Some 0) (next-level (level-in xs c)) ≡ Some (suc n)
+later : (x : ℕ) (xs : List ℕ) (n c : ℕ) → has x xs ≡ false → has c xs ≡ true → level-in xs c ≡ Some n → (b : Bool) → eqb x c ≡ b → cond b (Some 0) (one-more (level-in xs c)) ≡ Some (suc n)
 later x xs n c out inside e true t = let same : x ≡ c = eqb-true x c t in let bad : true ≡ false = sym inside ∙ ap (λ (y : ℕ). has y xs) (sym same) ∙ out in cc
-later x xs n c out inside e false t = ap next-level e
+later x xs n c out inside e false t = ap one-more e
 
 pub reads : (xs : List ℕ) → distinct xs ≡ true → (n c : ℕ) → letter-in xs n ≡ Some c → level-in xs c ≡ Some n
 reads [] d n c h = cc
-reads (x ∷ xs) d zero c h = let e : x ≡ c = cc in cond-true (eqb x c) (Some 0) (next-level (level-in xs c)) (eq-eqb x c e)
+reads (x ∷ xs) d zero c h = let e : x ≡ c = cc in cond-true (eqb x c) (Some 0) (one-more (level-in xs c)) (eq-eqb x c e)
 reads (x ∷ xs) d (suc n) c h =
     let p = and-parts (not (has x xs)) (distinct xs) d in
     later x xs n c (not-true (has x xs) (p .0)) (found xs n c h) (reads xs (p .1) n c h) (eqb x c) refl
@@ -56,7 +56,7 @@ after :
     ((m : ℕ) → level-in xs c ≡ Some m → letter-in xs m ≡ Some c) →
     (o : Option ℕ) →
     level-in xs c ≡ o →
-    next-level o ≡ Some n →
+    one-more o ≡ Some n →
     letter-in (x ∷ xs) n ≡ Some c
 after x xs n c rest None e h = cc
 after x xs n c rest (Some m) e h = let z : suc m ≡ n = cc in ap (letter-in (x ∷ xs)) (sym z) ∙ rest m e
@@ -66,7 +66,7 @@ written :
     ((m : ℕ) → level-in xs c ≡ Some m → letter-in xs m ≡ Some c) →
     (b : Bool) →
     eqb x c ≡ b →
-    cond b (Some 0) (next-level (level-in xs c)) ≡ Some n →
+    cond b (Some 0) (one-more (level-in xs c)) ≡ Some n →
     letter-in (x ∷ xs) n ≡ Some c
 written x xs n c rest true t h =
     let e : x ≡ c = eqb-true x c t in

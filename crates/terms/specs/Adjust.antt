@@ -2,10 +2,10 @@
 use mathlib.Core.Bool.{Bool, not, _&&_, _||_, cond}
 use mathlib.Core.List.{List, [], _∷_}
 use Prim.Native.Nat.{ℕ, _+_, _*_, _/_}
-use lib.Dec.{ltb}
-use Rattle.terms.specs.Units.{last-level, is-lot-cash, between}
+use lib.Dec.{eqb, ltb}
+use Rattle.terms.specs.Units.{last-level, is-day, is-lot-cash, between}
 use Rattle.terms.specs.Family.{Answers}
-use Rattle.terms.specs.Events.{no-rights, no-successor, event-outside}
+use Rattle.terms.specs.Events.{no-rights, no-successor, bad-prefix, event-outside, ill-formed, too-late}
 use Rattle.terms.specs.Claims.{no-claim, open-claim}
 use Rattle.terms.specs.Terms.{terms-fit}
 use Rattle.terms.specs.declared.code.Prefix.{Prefix}
@@ -77,10 +77,18 @@ claim-in-the-way e t =
     (not (no-rights (e .rights)) && not (no-claim (t .claim)))
     || (not (no-successor (e .successor)) && open-claim (t .claim))
 
--- how a line by itself stands in the way of an event
-abbrev pub line-refusals : Answers → Event → Terms → List (ℕ × Bool)
-line-refusals a e t =
-    (2, not (terms-fit t) || event-outside e)
+-- an event takes in the lines of its stock that expire after the day
+abbrev pub takes-in : ℕ → Event → Terms → Bool
+takes-in day e t = eqb (t .stock) (e .stock) && ltb day (t .series .expiry)
+
+-- an event on a day, and how a line by itself stands in its way
+abbrev pub line-refusals : Answers → ℕ → Event → Terms → List (ℕ × Bool)
+line-refusals a day e t =
+    (1, bad-prefix e)
+    ∷ (2, not (is-day day) || (event-outside e || not (terms-fit t)))
+    ∷ (4, ill-formed e)
+    ∷ (6, too-late day e)
+    ∷ (12, not (takes-in day e t))
     ∷ (21, ltb last-level (next-level a e t))
     ∷ (22, lot-misfits a (next-terms a e t))
     ∷ (23, claim-in-the-way e t)

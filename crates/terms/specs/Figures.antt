@@ -1,6 +1,7 @@
--- Figures that the exchange has published, beside what the definitions make of them.
+-- Worked figures, most of them as the exchange has printed them, beside what the definitions make of
+-- them.
 use mathlib.Core.Path.{_≡_, refl}
-use mathlib.Core.Bool.{Bool, true, false, _&&_}
+use mathlib.Core.Bool.{Bool, true, false, _&&_, cond}
 use mathlib.Core.List.{List, [], _∷_}
 use Prim.Native.Nat.{ℕ}
 use lib.Dec.{eqb}
@@ -9,13 +10,14 @@ use lib.ListN.{getD}
 use Rattle.std.specs.declared.option.Option.{Option}
 use Rattle.std.specs.declared.option.Option.the-variants.{Some, None}
 use Rattle.terms.specs.Units.{one}
+use Rattle.terms.specs.Refusals.{first}
 use Rattle.terms.specs.Claims.{claim-dollars}
 use Rattle.terms.specs.Family.{Answers}
 use Rattle.terms.specs.Futures.{futures}
 use Rattle.terms.specs.Options.{options}
-use Rattle.terms.specs.Reference.{reference}
-use Rattle.terms.specs.Adjust.{adjusted, next-claim}
-use Rattle.terms.specs.declared.right.Right.the-variants.{Without}
+use Rattle.terms.specs.Reference.{reference, reference-refusals}
+use Rattle.terms.specs.Adjust.{adjusted, next-claim, line-refusals}
+use Rattle.terms.specs.declared.right.Right.the-variants.{Without, Call}
 use Rattle.terms.specs.declared.claim.Claim.{Claim}
 use Rattle.terms.specs.declared.claim.Claim.the-variants.{Absent, Open, Fixed}
 use Rattle.terms.specs.declared.code.Prefix.{Prefix}
@@ -59,7 +61,7 @@ level-or (Some n) = n
 abbrev pub line : Answers → List ℕ → ℕ → ℕ → Terms
 line a code units cash =
     record {
-      series = record { prefix = prefix-of code; level = level-or (a .level (getD code 2 0)); expiry = 1; right = Without; strike = 0 };
+      series = record { prefix = prefix-of code; level = level-or (a .level (getD code 2 0)); expiry = 1; right = cond (a .fits Without 0) Without Call; strike = cond (a .fits Without 0) 0 1 };
       stock = 1;
       units = units;
       «strike_lot» = units;
@@ -87,6 +89,9 @@ is-code a t code =
     && (eqb (t .series .prefix .second) (getD code 1 0)
     && is-letter (a .letter (t .series .level)) (getD code 2 0))
 
+abbrev pub accepted : List (ℕ × Bool) → Bool
+accepted refusals = eqb (first refusals) 0
+
 abbrev pub as-noticed : Answers → Adjusted → Notice → Bool
 as-noticed a x n =
     is-code a (x .terms) (n .new-code)
@@ -111,10 +116,13 @@ pub data Figure : Type 0 where
 
 abbrev pub all-noticed : Answers → Event → List Notice → Bool
 all-noticed a e [] = true
-all-noticed a e (n ∷ ns) = as-noticed a (adjusted a e (line a (n .code) (n .units) (n .cash))) n && all-noticed a e ns
+all-noticed a e (n ∷ ns) =
+    accepted (line-refusals a 0 e (line a (n .code) (n .units) (n .cash)))
+    && (as-noticed a (adjusted a e (line a (n .code) (n .units) (n .cash))) n && all-noticed a e ns)
 
 abbrev pub holds : Figure → Bool
-holds (price-becomes price cash ratio becomes) = eqb (reference price cash ratio) becomes
+holds (price-becomes price cash ratio becomes) =
+    accepted (reference-refusals price cash ratio) && eqb (reference price cash ratio) becomes
 holds (lines-become a e notices) = all-noticed a e notices
 holds (claim-covers units rate covers) = claims (next-claim (offers rate) (line futures (codes "CSF") units 0)) covers
 holds (claim-pays units price close dollars) = eqb (claim-dollars close (Open units price 1)) dollars
@@ -154,7 +162,7 @@ figures =
     ∷ [])
     ∷ []
 
--- every figure comes out as it was published
+-- every figure comes out as it stands
 abbrev pub Figures-hold : Type 0
 Figures-hold = all-hold figures ≡ true
 

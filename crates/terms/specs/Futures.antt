@@ -1,9 +1,7 @@
 -- Stock futures.
-use mathlib.Core.Bool.{Bool, true, false, not, cond}
+use mathlib.Core.Bool.{Bool, false, not}
 use Prim.Native.Nat.{ℕ, _+_, _*_}
 use lib.Dec.{eqb}
-use Rattle.std.specs.declared.option.Option.{Option}
-use Rattle.std.specs.declared.option.Option.the-variants.{Some, None}
 use Rattle.terms.specs.Family.{Answers}
 use Rattle.terms.specs.Letters.{letter-in, level-in}
 use Rattle.terms.specs.Events.{cash-alone}

@@ -12,11 +12,11 @@ letter-in [] n = None
 letter-in (x ∷ xs) zero = Some x
 letter-in (x ∷ xs) (suc n) = letter-in xs n
 
-abbrev pub next-level : Option ℕ → Option ℕ
-next-level None = None
-next-level (Some n) = Some (suc n)
+abbrev pub one-more : Option ℕ → Option ℕ
+one-more None = None
+one-more (Some n) = Some (suc n)
 
 -- the level of a letter
 abbrev pub level-in : List ℕ → ℕ → Option ℕ
 level-in [] c = None
-level-in (x ∷ xs) c = cond (eqb x c) (Some 0) (next-level (level-in xs c))
+level-in (x ∷ xs) c = cond (eqb x c) (Some 0) (one-more (level-in xs c))

@@ -1,4 +1,4 @@
--- How a family reads a name, and how it writes a code.
+-- How a family reads a name.
 use mathlib.Core.Bool.{Bool, true, false, not, cond}
 use mathlib.Core.List.{List, [], _∷_}
 use Prim.Native.Nat.{ℕ}

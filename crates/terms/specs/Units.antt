@@ -88,3 +88,6 @@ is-claim dollars = leb dollars largest-claim
 
 abbrev pub is-number : ℕ → Bool
 is-number n = between 1 largest-number n
+
+abbrev pub is-lots : ℕ → Bool
+is-lots n = between 1 most-lots n

@@ -5,7 +5,7 @@ ghost use Prim.Native.Nat.{_≤_, _*_, _/_};
 ghost use Rattle.terms.specs.Refusals.{answer, first, Accepted};
 ghost use Rattle.terms.specs.Events.{event-outside};
 ghost use Rattle.terms.specs.Terms.{terms-fit};
-ghost use Rattle.terms.specs.Adjust.{next-claim, next-series, next-stock, adjusted, lot-misfits, claim-in-the-way, line-refusals};
+ghost use Rattle.terms.specs.Adjust.{next-claim, next-series, next-stock, adjusted, takes-in, lot-misfits, claim-in-the-way, line-refusals};
 ghost use Rattle.terms.specs.Worth.{Worth-kept};
 use crate::claim::Claim;
 use crate::code::Series;
@@ -13,8 +13,10 @@ use crate::event::Event;
 use crate::family::Family;
 use crate::refusal::Refusal;
 use crate::terms::Terms;
+use crate::units;
 use crate::units::Billionths;
 use crate::units::CashPerShare;
+use crate::units::Day;
 use crate::units::Dollars;
 use crate::units::LARGEST_LOT_CASH;
 use crate::units::LAST_LEVEL;
@@ -28,14 +30,27 @@ pub struct Adjusted {
 }
 
 impl Terms {
-    /// What the event makes of the line, or how the line stands in its way.
-    pub fn adjust<F: Family>(&self, event: &Event) -> Result<Adjusted, Refusal>
-        ensures refusal { λ r. ⌜ answer r ≡ first (line-refusals (F·Family .answers) (now (event .entry)) (now (self .entry))) ⌝ }
+    /// What the event of a day makes of the line; or why the event is refused, does not take the line
+    /// in, or finds it in its way.
+    pub fn adjust<F: Family>(&self, day: Day, event: &Event) -> Result<Adjusted, Refusal>
+        ensures refusal { λ r. ⌜ answer r ≡ first (line-refusals (F·Family .answers) day (now (event .entry)) (now (self .entry))) ⌝ }
         ensures value { λ r. ⌜ Accepted r (λ x. x ≡ adjusted (F·Family .answers) (now (event .entry)) (now (self .entry))) ⌝ }
         ensures worth { λ r. ⌜ Accepted r (λ x. Worth-kept (now (event .entry)) (now (self .entry)) x) ⌝ }
     {
-        if !self.is_within_units() || event.is_outside_units() {
+        if event.has_bad_prefix() {
+            return Err(Refusal::Malformed);
+        }
+        if !units::is_day(day) || event.is_outside_units() || !self.is_within_units() {
             return Err(Refusal::OutsideUnits);
+        }
+        if event.is_ill_formed() {
+            return Err(Refusal::IllFormedEvent);
+        }
+        if event.is_too_late(day) {
+            return Err(Refusal::DeadlineOutOfOrder);
+        }
+        if !self.is_taken_in(day, event) {
+            return Err(Refusal::NoLine);
         }
         let after = self.after::<F>(event);
         if after.terms.series.level > LAST_LEVEL {
@@ -48,6 +63,13 @@ impl Terms {
             return Err(Refusal::ClaimInTheWay);
         }
         Ok(after)
+    }
+
+    /// Whether the event takes the line in: it is of the event's stock and expires after the day.
+    pub fn is_taken_in(&self, day: Day, event: &Event) -> bool
+        ensures { λ r. ⌜ r ≡ takes-in day (now (event .entry)) (now (self .entry)) ⌝ }
+    {
+        self.stock == event.stock && day < self.series.expiry
     }
 
     // The line after the event, whether or not it may stand so.

@@ -1,7 +1,7 @@
 //! What a company does: the event that adjusts the lines of its stock.
 ghost use mathlib.Core.Path.{_≡_};
 ghost use Rattle.terms.specs.Refusals.{answer, first};
-ghost use Rattle.terms.specs.Events.{no-rights, whole-rights, no-successor, whole-successor, cash-alone, event-outside, event-refusals, ill-formed, no-effect};
+ghost use Rattle.terms.specs.Events.{no-rights, whole-rights, no-successor, whole-successor, cash-alone, event-outside, event-refusals, bad-prefix, too-late, ill-formed, no-effect};
 use crate::code::Prefix;
 use crate::refusal::Refusal;
 use crate::units;
@@ -67,8 +67,7 @@ impl Event {
     pub fn judge(&self, day: Day) -> Result<(), Refusal>
         ensures { λ r. ⌜ answer r ≡ first (event-refusals day (now (self .entry))) ⌝ }
     {
-        let prefix = self.successor.prefix;
-        if !prefix.is_absent() && !prefix.is_well_formed() {
+        if self.has_bad_prefix() {
             return Err(Refusal::Malformed);
         }
         if !units::is_day(day) || self.is_outside_units() {
@@ -77,7 +76,7 @@ impl Event {
         if self.is_ill_formed() {
             return Err(Refusal::IllFormedEvent);
         }
-        if self.rights.deadline != 0 && self.rights.deadline < day {
+        if self.is_too_late(day) {
             return Err(Refusal::DeadlineOutOfOrder);
         }
         Ok(())
@@ -93,6 +92,18 @@ impl Event {
             && self.successor.is_absent()
     }
 
+    pub(crate) fn has_bad_prefix(&self) -> bool
+        ensures { λ r. ⌜ r ≡ bad-prefix (now (self .entry)) ⌝ }
+    {
+        !self.successor.prefix.is_absent() && !self.successor.prefix.is_well_formed()
+    }
+
+    pub(crate) fn is_too_late(&self, day: Day) -> bool
+        ensures { λ r. ⌜ r ≡ too-late day (now (self .entry)) ⌝ }
+    {
+        self.rights.deadline != 0 && self.rights.deadline < day
+    }
+
     pub(crate) fn is_outside_units(&self) -> bool
         ensures { λ r. ⌜ r ≡ event-outside (now (self .entry)) ⌝ }
     {
@@ -104,7 +115,7 @@ impl Event {
             || !units::is_day(self.rights.deadline)
     }
 
-    fn is_ill_formed(&self) -> bool
+    pub(crate) fn is_ill_formed(&self) -> bool
         ensures { λ r. ⌜ r ≡ ill-formed (now (self .entry)) ⌝ }
     {
         self.has_no_effect()

@@ -1,4 +1,4 @@
-//! How a family reads a name, and how it writes a code.
+//! How a family reads a name.
 ghost use mathlib.Core.Path.{_≡_};
 ghost use Rattle.std.specs.declared.option.Option.the-variants.{Some};
 ghost use Rattle.terms.specs.Refusals.{answer, first, Accepted};

@@ -73,7 +73,8 @@ impl Refusal {
             Refusal::ClaimInTheWay => "a claim of the line stands in the way",
             Refusal::NoClaimToFix => "there is no claim to fix",
             Refusal::ClaimNotFixed => "the line's claim should have been fixed before its expiry",
-            Refusal::LotsPastLimit => "an account would hold more than 4,000 lots of a line",
+            Refusal::LotsPastLimit =>
+                "an account would have more than 4,000 lots of a line, bought or sold",
             Refusal::EquityPastLimit => "an equity would pass its limit",
         }
     }

@@ -1,6 +1,6 @@
 //! What each number counts, and how large it may be.
 ghost use mathlib.Core.Path.{_≡_};
-ghost use Rattle.terms.specs.Units.{is-day, is-price, is-units, is-ratio, is-rate, is-cash, is-number};
+ghost use Rattle.terms.specs.Units.{is-day, is-price, is-units, is-ratio, is-rate, is-cash, is-number, is-lots};
 
 /// Days from 1 January 2000, which is day 0.
 pub type Day = u16;
@@ -67,6 +67,13 @@ pub fn is_number(number: u32) -> bool
     ensures { λ r. ⌜ r ≡ is-number number ⌝ }
 {
     1 <= number
+}
+
+/// Whether a trade may be of so many lots.
+pub fn is_lots(lots: u16) -> bool
+    ensures { λ r. ⌜ r ≡ is-lots lots ⌝ }
+{
+    1 <= lots && lots <= MOST_LOTS
 }
 
 pub(crate) fn is_ratio(ratio: Billionths) -> bool

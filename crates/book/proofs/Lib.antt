@@ -1,0 +1,5 @@
+pub mod Ints
+pub mod Loops
+pub mod Sound
+pub mod Inputs
+pub mod Priced

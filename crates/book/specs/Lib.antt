@@ -1,0 +1,12 @@
+pub mod Rows
+pub mod Fits
+pub mod Names
+pub mod Opening
+pub mod Listing
+pub mod Trade
+pub mod Deal
+pub mod Mark
+pub mod Revalue
+pub mod Calls
+pub mod Questions
+pub mod Held

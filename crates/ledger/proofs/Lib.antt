@@ -1,0 +1,16 @@
+pub mod Ring
+pub mod Sums
+pub mod SameSeries
+pub mod Found
+pub mod Views
+pub mod Apart
+pub mod Listed
+pub mod Well
+pub mod OpenStep
+pub mod ListStep
+pub mod TradeStep
+pub mod MarkStep
+pub mod Main
+pub mod Firsts
+pub mod Answered
+pub mod Numbers
