@@ -1,12 +1,12 @@
 //! The run over a list of calls, and the promises that hold after every such list.
-ghost use mathlib.Core.Path.{_≡_};
-ghost use mathlib.Core.List.{map};
-ghost use Rattle.std.specs.Of.Vec.{vec-items};
-ghost use Rattle.std.specs.Vec.{made};
-ghost use Rattle.terms.specs.Refusals.{answer as answer-of};
 ghost use Rattle.book.specs.Calls.{empty, run as run-of};
 ghost use Rattle.ledger.specs.Agreement.{Balanced, Agrees, Answered, Orderly, ledger-of};
 ghost use Rattle.ledger.specs.Runs.{outcome-number, numbers-given};
+ghost use Rattle.std.specs.Of.Vec.{vec-items};
+ghost use Rattle.std.specs.Vec.{made};
+ghost use Rattle.terms.specs.Refusals.{answer as answer-of};
+ghost use mathlib.Core.List.{map};
+ghost use mathlib.Core.Path.{_≡_};
 use book::book::Book;
 use book::call::Call;
 use std::alloc::AllocError;
@@ -14,29 +14,32 @@ use std::alloc::Global;
 use terms::family::Family;
 use terms::refusal::Refusal;
 
-/// A book after a list of calls, and each call's refusal, none where it was accepted.
-#[derive(Drop)]
-pub struct Ran<F: Family> {
-    pub book: Book<F>,
-    pub refusals: Vec<Option<Refusal>>,
-}
-
-/// The calls one after the other on a new book.
-pub fn run<F: Family>(heap: Global, calls: &[Call]) -> Result<Ran<F>, AllocError>
-    ensures ran { λ r. ⌜ made r (λ x. x .book .table ≡ run-of (F·Family .answers) empty (now (calls .entry))) ⌝ }
-    ensures refused { λ r. ⌜ made r (λ x. map outcome-number (vec-items (x .refusals)) ≡ numbers-given (F·Family .answers) empty (now (calls .entry))) ⌝ }
-    ensures balanced { λ r. ⌜ made r (λ x. Balanced (x .book .table)) ⌝ }
-    ensures agrees { λ r. ⌜ made r (λ x. Agrees (x .book .table) (ledger-of (F·Family .answers) (now (calls .entry)))) ⌝ }
-    ensures answered { λ r. ⌜ made r (λ x. Answered (x .book .table) (ledger-of (F·Family .answers) (now (calls .entry)))) ⌝ }
-    ensures orderly { λ r. ⌜ made r (λ x. Orderly (x .book .table)) ⌝ }
+/// The calls one after the other on a new book. It allocates nothing, and has no other answer.
+pub fn run<F: Family>(calls: &[Call]) -> Book<F>
+    ensures ran { λ r. ⌜ r .table ≡ run-of (F·Family .answers) empty (now (calls .entry)) ⌝ }
+    ensures balanced { λ r. ⌜ Balanced (r .table) ⌝ }
+    ensures agrees { λ r. ⌜ Agrees (r .table) (ledger-of (F·Family .answers) (now (calls .entry))) ⌝ }
+    ensures answered { λ r. ⌜ Answered (r .table) (ledger-of (F·Family .answers) (now (calls .entry))) ⌝ }
+    ensures orderly { λ r. ⌜ Orderly (r .table) ⌝ }
 {
     let mut book = Book::<F>::new();
-    let mut refusals = Vec::new(heap);
+    for i in 0..calls.len() {
+        let _ = book.make(calls[i]);
+    }
+    book
+}
+
+/// Each call's refusal in such a run, none where it was accepted.
+pub fn refusals<F: Family>(heap: Global, calls: &[Call]) -> Result<Vec<Option<Refusal>>, AllocError>
+    ensures { λ r. ⌜ made r (λ v. map outcome-number (vec-items v) ≡ numbers-given (F·Family .answers) empty (now (calls .entry))) ⌝ }
+{
+    let mut book = Book::<F>::new();
+    let mut given = Vec::new(heap);
     for i in 0..calls.len() {
         let answer = book.make(calls[i]);
-        refusals.push(refusal_in(answer))?;
+        given.push(refusal_in(answer))?;
     }
-    Ok(Ran { book, refusals })
+    Ok(given)
 }
 
 fn refusal_in(answer: Result<(), Refusal>) -> Option<Refusal>
