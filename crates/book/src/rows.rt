@@ -265,7 +265,7 @@ pub(crate) fn gain_all(rows: &mut [Account], j: usize, from: u64, to: u64)
     requires { ⌜ j < 48 ⌝ ∗ ⌜ ((i : ℕ) → i < length (now rows) → Held (getD (now rows) i no-account) j from to) ⌝ }
     ensures { λ _. ⌜ now (rows .exit) ≡ map (gained j (change from to)) (now (rows .entry)) ⌝ }
 {
-    for i in 0..rows.len() {
-        rows[i] = rows[i].gain(j, from, to);
+    for k in 0..rows.len() {
+        rows[k] = rows[k].gain(j, from, to);
     }
 }

@@ -14,3 +14,4 @@ pub mod Main
 pub mod Firsts
 pub mod Answered
 pub mod Numbers
+pub mod Questions

@@ -1,3 +1,4 @@
 pub mod Ledger
 pub mod Agreement
 pub mod Runs
+pub mod Asked

@@ -1,6 +1,7 @@
 //! The run over a list of calls, and the promises that hold after every such list.
 ghost use Rattle.book.specs.Calls.{empty, run as run-of};
 ghost use Rattle.ledger.specs.Agreement.{Balanced, Agrees, Answered, Orderly, ledger-of};
+ghost use Rattle.ledger.specs.Asked.{Asked, Rows-kept};
 ghost use Rattle.ledger.specs.Runs.{outcome-number, numbers-given};
 ghost use Rattle.std.specs.Of.Vec.{vec-items};
 ghost use Rattle.std.specs.Vec.{made};
@@ -20,7 +21,9 @@ pub fn run<F: Family>(calls: &[Call]) -> Book<F>
     ensures balanced { λ r. ⌜ Balanced (r .table) ⌝ }
     ensures agrees { λ r. ⌜ Agrees (r .table) (ledger-of (F·Family .answers) (now (calls .entry))) ⌝ }
     ensures answered { λ r. ⌜ Answered (r .table) (ledger-of (F·Family .answers) (now (calls .entry))) ⌝ }
+    ensures asked { λ r. ⌜ Asked (F·Family .answers) (r .table) (ledger-of (F·Family .answers) (now (calls .entry))) ⌝ }
     ensures orderly { λ r. ⌜ Orderly (r .table) ⌝ }
+    ensures rows { λ r. ⌜ Rows-kept (r .table) ⌝ }
 {
     let mut book = Book::<F>::new();
     for i in 0..calls.len() {

@@ -5,6 +5,7 @@ use crate::fault::FaultFromFmt;
 use crate::fault::FaultFromRefusal;
 use book::book::Book;
 use book::call::Call;
+use ledger::refusals;
 use ledger::run;
 use notation::Date;
 use notation::DateDisplay;
@@ -19,21 +20,30 @@ use terms::futures::Futures;
 use terms::futures::FuturesFamily;
 use terms::units::Day;
 
-const NAME: Name = Name {
-    code: Code {
-        prefix: Prefix {
-            first: b'C',
-            second: b'N',
-        },
-        letter: b'F',
+const CODE: Code = Code {
+    prefix: Prefix {
+        first: b'C',
+        second: b'N',
     },
+    letter: b'F',
+};
+
+const SEPTEMBER: Name = Name {
+    code: CODE,
+    expiry: 8_299,
+    right: 0,
+    strike: 0,
+};
+
+const DECEMBER: Name = Name {
+    code: CODE,
     expiry: 8_390,
     right: 0,
     strike: 0,
 };
 
 /// Opened and listed, traded, marked on two days.
-const CALLS: [Call; 6] = [
+const CALLS: [Call; 7] = [
     Call::Opening {
         day: 8_231,
         account: 101,
@@ -44,14 +54,21 @@ const CALLS: [Call; 6] = [
     },
     Call::Listing {
         day: 8_231,
-        name: NAME,
+        name: SEPTEMBER,
+        stock: 2891,
+        units: 20_000_000,
+        price: 2_490,
+    },
+    Call::Listing {
+        day: 8_231,
+        name: DECEMBER,
         stock: 2891,
         units: 20_000_000,
         price: 2_500,
     },
     Call::Trade {
         day: 8_234,
-        name: NAME,
+        name: DECEMBER,
         buyer: 101,
         seller: 102,
         price: 2_520,
@@ -59,12 +76,12 @@ const CALLS: [Call; 6] = [
     },
     Call::Mark {
         day: 8_234,
-        name: NAME,
+        name: DECEMBER,
         price: 2_550,
     },
     Call::Mark {
         day: 8_235,
-        name: NAME,
+        name: DECEMBER,
         price: 2_480,
     },
 ];
@@ -76,16 +93,16 @@ struct Step(Day, &'static str, usize);
 const STEPS: [Step; 4] = [
     Step(
         8_231,
-        "Brokers 101 and 102 open accounts. CNF is listed: 2,000 shares, at 25.00.",
-        3,
+        "Brokers 101 and 102 open accounts. CNF is listed for September, at 24.90, and for\n            December, at 25.00; one lot is 2,000 shares.",
+        4,
     ),
-    Step(8_234, "101 buys 3 lots of CNF from 102 at 25.20.", 4),
-    Step(8_234, "CNF is marked at 25.50.", 5),
-    Step(8_235, "CNF is marked at 24.80.", 6),
+    Step(8_234, "101 buys 3 lots of December from 102 at 25.20.", 5),
+    Step(8_234, "December is marked at 25.50.", 6),
+    Step(8_235, "December is marked at 24.80.", 7),
 ];
 
 const OPENING: &str = "
-Two brokers in a book of futures on the same stock, expiring 2022-12-21.
+Two brokers in a book of futures on the same stock.
 
 ";
 
@@ -113,8 +130,12 @@ fn tell(heap: Global, out: &mut String, step: Step) -> Result<(), Fault> {
     } else {
         &CALLS[0..0]
     };
-    let ran = run::<Futures>(heap, made)?;
-    show(heap, out, &ran.book)
+    for refusal in refusals::<Futures>(heap, made)?.iter() {
+        if let Some(refusal) = refusal {
+            return Err(Fault::Refused(*refusal));
+        }
+    }
+    show(heap, out, &run::<Futures>(made))
 }
 
 // The two accounts and their sums.
@@ -123,7 +144,7 @@ fn show(heap: Global, out: &mut String, book: &Book<Futures>) -> Result<(), Faul
     let mut lots: i32 = 0;
     let mut equity: i64 = 0;
     for account in [101, 102] {
-        let held = book.lots(account, NAME)?;
+        let held = book.lots(account, DECEMBER)?;
         let worth = book.equity(account)?;
         row(heap, out, account, held, worth)?;
         lots = lots.saturating_add(held);

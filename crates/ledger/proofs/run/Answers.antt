@@ -2,6 +2,8 @@ use Rattle.book.specs.Calls.{empty, run}
 use Rattle.book.specs.declared.call.Call.the-variants.{Opening}
 use Rattle.book.specs.declared.table.Table.{Table}
 use Rattle.ledger.proofs.Answered.{answered}
+use Rattle.ledger.proofs.Questions.{asked, rows-kept}
+use Rattle.ledger.specs.Asked.{Asked, Rows-kept}
 use Rattle.ledger.proofs.Main.{run-more, step-is, stands-at}
 use Rattle.ledger.proofs.run.Needs as need
 use Rattle.ledger.specs.Agreement.{Answered, ledger-of}
@@ -23,11 +25,14 @@ returns g c =
     let a = g .F·Family .answers in
     let calls = c .args .calls .now in
     let e : c .loop-i .book .table ≡ run a empty calls =
-      c .loop-i .inv ∙ ap (run a empty) (take-all (c .loop-i .i) calls (c .loop-i-test .left)) in
+    c .loop-i .inv ∙ ap (run a empty) (take-all (c .loop-i .i) calls (c .loop-i-test .left)) in
     let s = stands-at a calls (c .loop-i .book .table) e in
     record {
       ran = e;
       balanced = s .0;
       agrees = s .1 .0;
       answered = subst (λ (t : Table). Answered t (ledger-of a calls)) (sym e) (answered a calls);
-      orderly = s .1 .1 }
+      asked = subst (λ (t : Table). Asked a t (ledger-of a calls)) (sym e) (asked a calls);
+      orderly = s .1 .1;
+      rows = subst (λ (t : Table). Rows-kept t) (sym e) (rows-kept a calls);
+    }

@@ -12,15 +12,15 @@ use Rattle.book.proofs.rows.gain_all.Needs as need
 
 pub gain-requires : need.gain-requires
 gain-requires c κs =
-    let lt : c .loop-i .i < length (c .args .rows .now) = omega arith in
-    let e = half-at (gained (c .args .j) (change (c .args .from) (c .args .to))) (c .args .rows .now) (c .loop-i .rows) (c .loop-i .i) no-account lt (c .loop-i .inv) in
-    (c .pre .0, subst (λ (r : Account). Held r (c .args .j) (c .args .from) (c .args .to)) (sym e) (c .pre .1 (c .loop-i .i) lt))
+    let lt : c .loop-k .k < length (c .args .rows .now) = omega arith in
+    let e = half-at (gained (c .args .j) (change (c .args .from) (c .args .to))) (c .args .rows .now) (c .loop-k .rows) (c .loop-k .k) no-account lt (c .loop-k .inv) in
+    (c .pre .0, subst (λ (r : Account). Held r (c .args .j) (c .args .from) (c .args .to)) (sym e) (c .pre .1 (c .loop-k .k) lt))
 
-pub loop-i-again : need.loop-i-again
-loop-i-again c =
-    let lt : c .loop-i .i < length (c .args .rows .now) = omega arith in
-    ap (set (c .loop-i .rows) (c .loop-i .i)) (c .gain .ensures)
-    ∙ half-more (gained (c .args .j) (change (c .args .from) (c .args .to))) (c .args .rows .now) (c .loop-i .rows) (c .loop-i .i) no-account lt (c .loop-i .inv)
+pub loop-k-again : need.loop-k-again
+loop-k-again c =
+    let lt : c .loop-k .k < length (c .args .rows .now) = omega arith in
+    ap (set (c .loop-k .rows) (c .loop-k .k)) (c .gain .ensures)
+    ∙ half-more (gained (c .args .j) (change (c .args .from) (c .args .to))) (c .args .rows .now) (c .loop-k .rows) (c .loop-k .k) no-account lt (c .loop-k .inv)
 
 pub returns : need.returns
-returns c = half-all (gained (c .args .j) (change (c .args .from) (c .args .to))) (c .args .rows .now) (c .loop-i .rows) (c .loop-i .i) (omega arith) (c .loop-i .inv)
+returns c = half-all (gained (c .args .j) (change (c .args .from) (c .args .to))) (c .args .rows .now) (c .loop-k .rows) (c .loop-k .k) (omega arith) (c .loop-k .inv)

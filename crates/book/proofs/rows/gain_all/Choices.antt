@@ -5,5 +5,5 @@ use Rattle.book.specs.Trade.{change}
 use Rattle.book.specs.Mark.{gained}
 use Rattle.book.proofs.rows.gain_all.Given as given
 
-abbrev pub Inv-loop-i : given.InvT-loop-i
-Inv-loop-i l = l .rows ≡ map (gained (l .j) (change (l .from) (l .to))) (take (l .i) (l .entry .rows)) ++ drop (l .i) (l .entry .rows)
+abbrev pub Inv-loop-k : given.InvT-loop-k
+Inv-loop-k l = l .rows ≡ map (gained (l .j) (change (l .from) (l .to))) (take (l .k) (l .entry .rows)) ++ drop (l .k) (l .entry .rows)

@@ -44,7 +44,7 @@ ghost-self g c =
     ∙ priced-from a (listed-terms a n (c .args .stock) (c .args .units)) (c .args .price) (series-fit a n (standard-formed a law n standard) misfit) fit (inside .price-in) in
     let value : c .mark-value-carry .result ≤ largest-value = omega (arith, c .mark-value-carry .ensures, law .mark-in (c .lot .result) (c .args .price) priced-lot) in
     let terms : terms-fit (c .listed-terms .result) ≡ true = subst (λ (t : Terms). terms-fit t ≡ true) (sym (c .listed-terms .ensures)) fit in (
-      all-set line-fits (c .args .self .now .table .lines) (c .in-Some .place) (Taken (record { terms = c .listed-terms .result; carry = c .mark-value-carry .result })) (line-in (c .listed-terms .result) (c .mark-value-carry .result) terms value) (c .args .self .now .«lines_fit»),
+      all-set line-fits (c .args .self .now .table .lines) _ (Taken (record { terms = c .listed-terms .result; carry = c .mark-value-carry .result })) (line-in (c .listed-terms .result) (c .mark-value-carry .result) terms value) (c .args .self .now .«lines_fit»),
       (
         c .args .self .now .«rows_fit»,
         (c .args .self .now .«count_in», tt),
