@@ -1,4 +1,6 @@
 //! The contract book of one product family: the seven calls that change it, and the questions.
+#![tactic(auto)]
+
 mod adjustment;
 pub mod book;
 mod dispatch;

@@ -1,5 +1,7 @@
 //! The exchange's published cases, the edges of every limit, and each refusal that an event, a name,
 //! a price or a line by itself can raise: tables, and tests that go through them.
+#![tactic(auto)]
+
 #[cfg(test)]
 mod adjustments;
 #[cfg(test)]

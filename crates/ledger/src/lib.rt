@@ -1,9 +1,10 @@
 //! The run over a list of calls, and the promises that hold after every such list.
+#![tactic(auto)]
 ghost use Rattle.rows.specs.Calls.{empty, run as run_of};
 ghost use Rattle.ledger.specs.Promises.{Promises};
 ghost use Rattle.ledger.specs.Runs.{Noted, outcome_number, numbers_given};
 ghost use Rattle.std.specs.Prelude.{◌≡◌, map, IfOk, slice_set};
-ghost use Rattle.terms.specs.Refusals.{answer as answer-of};
+ghost use Rattle.terms.specs.Refusals.{answer as answer_of};
 
 use book::book::Book;
 use rows::call::{Call, Done};
@@ -48,7 +49,7 @@ pub fn refusals<F: Family>(heap: Global, calls: &[Call]) -> Result<Vec<Option<Re
 }
 
 fn refusal_in(answer: Result<Done, Refusal>) -> Option<Refusal>
-    ensures { outcome_number result ≡ answer-of answer }
+    ensures { outcome_number result ≡ answer_of answer }
 {
     match answer {
         Ok(_) => None,

@@ -1,4 +1,6 @@
 //! The first row of a slice that has a key.
+#![tactic(auto)]
+
 ghost use Rattle.std.specs.Prelude.{◌≡◌, Bool, true, false, None};
 ghost use Rattle.lookup.specs.Seek.{sought, any_of, First};
 

@@ -1,4 +1,6 @@
 //! What an event and a fixing find in the rows of a book, and what they make of them.
+#![tactic(auto)]
+
 pub mod credits;
 pub mod entries;
 pub mod fixes;

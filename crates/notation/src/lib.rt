@@ -1,4 +1,6 @@
 // How the numbers and dates of a contract book are read from text and written as text.
+#![tactic(auto)]
+
 mod dates;
 mod numbers;
 #[cfg(test)]

@@ -1,4 +1,6 @@
 //! The program: reads a command line, asks the libraries, prints the answer.
+#![tactic(auto)]
+
 mod brokers;
 mod command;
 mod demo;

@@ -1,4 +1,6 @@
 //! One test over all rows of a slice, and one change made to each.
+#![tactic(auto)]
+
 ghost use Rattle.std.specs.Prelude.{◌≡◌, ℕ, Bool, true, map};
 ghost use Rattle.lookup.specs.Seek.{any_of};
 ghost use Rattle.sweep.specs.Sweep.{all_of, how_many};

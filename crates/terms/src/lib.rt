@@ -1,5 +1,7 @@
 //! The ground of the contract book: units, codes and names, refusals, events, claims, product
 //! families, the reference price, and what one event makes of one line.
+#![tactic(auto)]
+
 pub mod adjust;
 pub mod claim;
 pub mod code;
