@@ -19,9 +19,9 @@ overflow-cast-result c =
 pub returns : goal.returns
 returns c =
     let text = c.args.text.now in
-    let is : c.in-ok-n.n ≡ number 0 text =
-    same_from_fitted c.in-ok-n.n (number 0 text) c.in-ok-n.ensures in
-    let digits = sym c.if-not-is-numeral.ensures in
+    let is : c.in_ok-n.n ≡ number 0 text =
+    same_from_fitted c.in_ok-n.n (number 0 text) c.in_ok-n.ensures in
+    let digits = sym c.if-not-is_numeral.ensures in
     record {
       value = ap Some is ∙ sym (cond-true _ (Some (number 0 text)) None digits);
       bound = omega (arith, numeral_short text (length text) digits (omega arith));

@@ -19,9 +19,9 @@ returns-in-err-few-digits-3 c =
 pub returns : goal.returns
 returns c =
     c.to_day.ensures
-    ∙ read_parts c.args.text.now c.in-ok-few-digits.field-0 c.in-ok-few-digits-2.field-0
-    c.in-ok-few-digits-3.field-0
-    (sym c.if-not-is-dashed.ensures)
-    c.in-ok-few-digits.ensures.value
-    c.in-ok-few-digits-2.ensures.value
-    c.in-ok-few-digits-3.ensures.value
+    ∙ read_parts c.args.text.now c.in_ok-few_digits.field-0 c.in_ok-few_digits-2.field-0
+    c.in_ok-few_digits-3.field-0
+    (sym c.if-not-is_dashed.ensures)
+    c.in_ok-few_digits.ensures.value
+    c.in_ok-few_digits-2.ensures.value
+    c.in_ok-few_digits-3.ensures.value

@@ -22,9 +22,9 @@ pub loop-b-preserved : goal.loop-b-preserved
 loop-b-preserved c =
     let i = c.loop-b.b-index in
     let text = c.args.text.now in
-    let next : c.in-ok-n.n ≡ 10 * c.loop-b.n + (get_or text i 0 - 48) =
-    omega (arith, c.in-ok-n.ensures, c.in-ok-checked-mul.ensures) in (
-      omega (arith, c.in-ok-n.ensures),
+    let next : c.in_ok-n.n ≡ 10 * c.loop-b.n + (get_or text i 0 - 48) =
+    omega (arith, c.in_ok-n.ensures, c.in_ok-checked_mul.ensures) in (
+      omega (arith, c.in_ok-n.ensures),
       ap (λ n. number n (drop (i + 1) text)) next ∙ sym (number_more c.loop-b.n text i (omega arith)) ∙ c.loop-b.invariant.1,
       (digit_here text i (omega arith) c.loop-b.invariant.2).1,
     )

@@ -5,11 +5,11 @@ use Rattle.std.proofs.Common.{sym, ◌∙◌, arith}
 pub returns-then-point-text : goal.returns-then-point-text
 returns-then-point-text c =
     let text = c.args.text.now in
-    let p = c.point-in-point.result in
-    let at = c.point-in-point.ensures.place in
-    c.in-units.ensures
+    let p = c.point_in-point.result in
+    let at = c.point_in-point.ensures.place in
+    c.in_units.ensures
     ∙ read_whole text _ _ c.args.places (cut_before text p at) (cut_none text p at c.if-point-text.true)
-    (sym c.if-not-is-numeral.ensures) (omega arith)
+    (sym c.if-not-is_numeral.ensures) (omega arith)
 
 pub returns-then-not-is-numeral-2 : goal.returns-then-not-is-numeral-2
 returns-then-not-is-numeral-2 c =
@@ -22,8 +22,8 @@ returns-then-not-is-numeral-2 c =
 pub returns : goal.returns
 returns c =
     let text = c.args.text.now in
-    let p = c.point-in-point.result in
-    let at = c.point-in-point.ensures.place in
-    c.in-units-2.ensures
+    let p = c.point_in-point.result in
+    let at = c.point_in-point.ensures.place in
+    c.in_units-2.ensures
     ∙ read_decimals text _ _ c.args.places (cut_before text p at) (cut_after text p at)
-    (sym c.if-not-is-numeral.ensures) (sym c.if-not-is-numeral-2.ensures)
+    (sym c.if-not-is_numeral.ensures) (sym c.if-not-is_numeral-2.ensures)

@@ -5,9 +5,9 @@ use Rattle.notation.specs.Calendar.{to_day}
 
 pub returns : goal.returns
 returns c =
-    let y = c.split-year-year.result.0 in
-    let m = c.split-month-month.result.0 in
-    let d = c.split-month-month.result.1 + 1 in
+    let y = c.split_year-year.result.0 in
+    let m = c.split_month-month.result.0 in
+    let d = c.split_month-month.result.1 + 1 in
     let day : to_day (record { year = y; month = m; day = d }) ≡ Some c.args.day =
     to_day_real y m d c.args.day (record {
       year = omega arith;

@@ -20,18 +20,18 @@ returns g c =
     let value = c.after-after.ensures in
     let level : next_level a e t ≤ last_level = omega (arith, ap (λ x. x.terms.series.level) value) in
     let lot : lot_misfits a (next_terms a e t) ≡ false =
-    ap (λ x. lot_misfits a x.terms) (sym value) ∙ sym c.if-has-misfit-lot.ensures in
-    let typed : c.after-after.result.terms.stock ≤ largest_number = omega (arith, c.after-after.type-inv) in
+    ap (λ x. lot_misfits a x.terms) (sym value) ∙ sym c.if-has_misfit_lot.ensures in
+    let typed : c.after-after.result.terms.stock ≤ largest_number = omega (arith, c.after-after.type_inv) in
     let numbered : next_stock e t ≤ largest_number = omega (arith, ap (λ x. x.terms.stock) value, typed) in
     record {
       refusal =
-          passes_over 1 (bad_prefix e) (sym c.if-has-bad-prefix.ensures)
+          passes_over 1 (bad_prefix e) (sym c.if-has_bad_prefix.ensures)
           (passes_over 2 (not (is_day day) || (event_outside e || not (terms_fit t)))
           (or_from (not (is_day day)) (event_outside e || not (terms_fit t))
           (not_from_true (is_day day) (sym c.if-not-is-day.ensures))
           (or_from (event_outside e) (not (terms_fit t)) (sym c.if-is-outside-units.ensures)
           (not_from_true (terms_fit t) (sym c.if-not-is-within-units.ensures))))
-          (passes_over 4 (ill_formed e) (sym c.if-is-ill-formed.ensures)
+          (passes_over 4 (ill_formed e) (sym c.if-is_ill_formed.ensures)
           (passes_over 6 (too_late day e) (sym c.if-is-too-late.ensures)
           (passes_over 12 (not (takes_in day e t)) (not_from_true (takes_in day e t) (sym c.if-not-is-taken-in.ensures))
           (passes_over 21 (ltb last_level (next_level a e t)) (le-ltb last_level (next_level a e t) level)
@@ -40,7 +40,7 @@ returns g c =
       value = value;
       within =
           subst (λ (x : Adjusted). terms_fit x.terms ≡ true) (sym value)
-          (next_fit e (sym c.if-is-ill-formed.ensures) (sym c.if-is-outside-units.ensures) a g.met.F.Family.keeps t
+          (next_fit e (sym c.if-is_ill_formed.ensures) (sym c.if-is-outside-units.ensures) a g.met.F.Family.keeps t
           (sym c.if-not-is-within-units.ensures) numbered (le-ltb last_level (next_level a e t) level) lot);
       worth = subst (λ (x : Adjusted). WorthKept e t x) (sym value) (worth_kept a g.met.F.Family.keeps e t);
     }
