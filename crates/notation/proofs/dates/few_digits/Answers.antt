@@ -4,17 +4,17 @@ use Rattle.notation.specs.Decimal.{number}
 use Rattle.std.proofs.lemmas.Bool.{cond-true}
 use Rattle.std.proofs.Common.{◌≡◌, length, Some, None, sym, ap, ◌∙◌, arith}
 
-pub returns-in-err-n : goal.returns-in-err-n
-returns-in-err-n c =
+pub returns-in_err-n : goal.returns-in_err-n
+returns-in_err-n c =
     let text = c.args.text.now in
     let none : ⊥ =
-    omega (arith, numeral_short text 4 (sym c.if-not-is-numeral.ensures) (omega arith), large_from_none (number 0 text) c.in-err-n.ensures) in
+    omega (arith, numeral_short text 4 (sym c.if-not-is_numeral.ensures) (omega arith), large_from_none (number 0 text) c.in_err-n.ensures) in
     absurd none
 
-pub overflow-cast-result : goal.overflow-cast-result
-overflow-cast-result c =
+pub overflow_cast-result : goal.overflow_cast-result
+overflow_cast-result c =
     let text = c.args.text.now in
-    omega (arith, numeral_short text 4 (sym c.if-not-is-numeral.ensures) (omega arith), same_from_fitted c.in-ok-n.n (number 0 text) c.in-ok-n.ensures)
+    omega (arith, numeral_short text 4 (sym c.if-not-is_numeral.ensures) (omega arith), same_from_fitted c.in_ok-n.n (number 0 text) c.in_ok-n.ensures)
 
 pub returns : goal.returns
 returns c =

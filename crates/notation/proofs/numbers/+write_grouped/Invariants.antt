@@ -1,4 +1,4 @@
 use Rattle.notation.proofs.numbers.+write_grouped.Given as goal
 
-abbrev pub decreases-write-grouped : goal.decreases-write_grouped
-decreases-write-grouped g l = l.n
+abbrev pub decreases-write_grouped : goal.decreases-write_grouped
+decreases-write_grouped g l = l.n

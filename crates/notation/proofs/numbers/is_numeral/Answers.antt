@@ -5,8 +5,8 @@ use Rattle.std.proofs.lemmas.Bool.Decides.{nat_tests}
 use Rattle.std.specs.Str.{all_ascii_digits}
 use Rattle.std.proofs.Common.{arith}
 
-pub returns-then-not-is-ascii-digit : goal.returns-then-not-is-ascii-digit
-returns-then-not-is-ascii-digit c = let e = digits_more c.args.text.now c.loop-b.b-index (omega arith) in grind (arith, nat_tests)
+pub returns-then-not-is_ascii_digit : goal.returns-then-not-is_ascii_digit
+returns-then-not-is_ascii_digit c = let e = digits_more c.args.text.now c.loop-b.b-index (omega arith) in grind (arith, nat_tests)
 
 pub loop-b-preserved : goal.loop-b-preserved
 loop-b-preserved c = let e = digits_more c.args.text.now c.loop-b.b-index (omega arith) in grind (arith, nat_tests)

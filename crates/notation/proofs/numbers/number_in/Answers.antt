@@ -4,19 +4,19 @@ use Rattle.notation.proofs.numbers.number_in.Goals as goal
 use Rattle.notation.specs.Decimal.{number, fitted}
 use Rattle.std.proofs.lemmas.List.{at_drop_all}
 
-pub returns-in-err-checked-mul : goal.returns-in-err-checked-mul
-returns-in-err-checked-mul c =
+pub returns-in_err-checked_mul : goal.returns-in_err-checked_mul
+returns-in_err-checked_mul c =
     let reach = number_reaches c.loop-b.n c.args.text.now c.loop-b.b-index (omega arith) in
-    c.from-residual.ensures ∙ too_large _ (omega (arith, c.in-err-checked-mul.ensures))
+    c.from_residual.ensures ∙ too_large _ (omega (arith, c.in_err-checked_mul.ensures))
 
-pub overflow-sub-b : goal.overflow-sub-b
-overflow-sub-b c = omega (arith, (digit_here c.args.text.now c.loop-b.b-index (omega arith) c.loop-b.invariant.2).0)
+pub overflow_sub-b : goal.overflow_sub-b
+overflow_sub-b c = omega (arith, (digit_here c.args.text.now c.loop-b.b-index (omega arith) c.loop-b.invariant.2).0)
 
-pub returns-in-err-n : goal.returns-in-err-n
-returns-in-err-n c =
+pub returns-in_err-n : goal.returns-in_err-n
+returns-in_err-n c =
     let reach = number_reaches c.loop-b.n c.args.text.now c.loop-b.b-index (omega arith) in
-    c.from-residual-in-err-n.ensures
-    ∙ too_large _ (omega (arith, c.in-err-n.ensures, c.in-ok-checked-mul.ensures))
+    c.from_residual-in_err-n.ensures
+    ∙ too_large _ (omega (arith, c.in_err-n.ensures, c.in_ok-checked_mul.ensures))
 
 pub loop-b-preserved : goal.loop-b-preserved
 loop-b-preserved c =

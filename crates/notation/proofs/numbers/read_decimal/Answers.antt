@@ -11,13 +11,13 @@ returns-then-point-text c =
     ∙ read_whole text _ _ c.args.places (cut_before text p at) (cut_none text p at c.if-point-text.true)
     (sym c.if-not-is_numeral.ensures) (omega arith)
 
-pub returns-then-not-is-numeral-2 : goal.returns-then-not-is-numeral-2
-returns-then-not-is-numeral-2 c =
+pub returns-then-not-is_numeral-2 : goal.returns-then-not-is_numeral-2
+returns-then-not-is_numeral-2 c =
     let text = c.args.text.now in
-    let p = c.point-in-point.result in
-    let at = c.point-in-point.ensures.place in
+    let p = c.point_in-point.result in
+    let at = c.point_in-point.ensures.place in
     read_none text _ _ c.args.places (cut_before text p at) (cut_after text p at)
-    (λ e. c.if-point-text.false (at ∙ e)) (sym c.if-not-is-numeral-2.ensures)
+    (λ e. c.if-point-text.false (at ∙ e)) (sym c.if-not-is_numeral-2.ensures)
 
 pub returns : goal.returns
 returns c =

@@ -2,11 +2,11 @@ use Rattle.std.proofs.Common.{ℕ, ◌^◌, ◌<◌, sym, ap, mod-eq_of_lt, arit
 use Rattle.notation.proofs.numbers.Decimal.parts.Goals as goal
 use native.Mathlib.Nat.{one-le-pow, div-eq_of_lt}
 
-pub nonzero-div-result : goal.nonzero-div-result
-nonzero-div-result c = omega (arith, one-le-pow c.from.result 10 (lit≤ tt), c.in-Some.ensures)
+pub nonzero_div-result : goal.nonzero_div-result
+nonzero_div-result c = omega (arith, one-le-pow c.from.result 10 (lit≤ tt), c.in-Some.ensures)
 
-pub nonzero-rem-result : goal.nonzero-rem-result
-nonzero-rem-result c = omega (arith, one-le-pow c.from.result 10 (lit≤ tt), c.in-Some.ensures)
+pub nonzero_rem-result : goal.nonzero_rem-result
+nonzero_rem-result c = omega (arith, one-le-pow c.from.result 10 (lit≤ tt), c.in-Some.ensures)
 
 pub returns-in-None : goal.returns-in-None
 returns-in-None c =

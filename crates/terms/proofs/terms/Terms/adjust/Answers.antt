@@ -28,19 +28,19 @@ returns g c =
           passes_over 1 (bad_prefix e) (sym c.if-has_bad_prefix.ensures)
           (passes_over 2 (not (is_day day) || (event_outside e || not (terms_fit t)))
           (or_from (not (is_day day)) (event_outside e || not (terms_fit t))
-          (not_from_true (is_day day) (sym c.if-not-is-day.ensures))
-          (or_from (event_outside e) (not (terms_fit t)) (sym c.if-is-outside-units.ensures)
-          (not_from_true (terms_fit t) (sym c.if-not-is-within-units.ensures))))
+          (not_from_true (is_day day) (sym c.if-not-is_day.ensures))
+          (or_from (event_outside e) (not (terms_fit t)) (sym c.if-is_outside_units.ensures)
+          (not_from_true (terms_fit t) (sym c.if-not-is_within_units.ensures))))
           (passes_over 4 (ill_formed e) (sym c.if-is_ill_formed.ensures)
-          (passes_over 6 (too_late day e) (sym c.if-is-too-late.ensures)
-          (passes_over 12 (not (takes_in day e t)) (not_from_true (takes_in day e t) (sym c.if-not-is-taken-in.ensures))
+          (passes_over 6 (too_late day e) (sym c.if-is_too_late.ensures)
+          (passes_over 12 (not (takes_in day e t)) (not_from_true (takes_in day e t) (sym c.if-not-is_taken_in.ensures))
           (passes_over 21 (ltb last_level (next_level a e t)) (le-ltb last_level (next_level a e t) level)
           (passes_over 22 (lot_misfits a (next_terms a e t)) lot
-          (passes_over 23 (claim_in_the_way e t) (sym c.if-has-claim-in-the-way.ensures) refl)))))));
+          (passes_over 23 (claim_in_the_way e t) (sym c.if-has_claim_in_the_way.ensures) refl)))))));
       value = value;
       within =
           subst (λ (x : Adjusted). terms_fit x.terms ≡ true) (sym value)
-          (next_fit e (sym c.if-is_ill_formed.ensures) (sym c.if-is-outside-units.ensures) a g.met.F.Family.keeps t
-          (sym c.if-not-is-within-units.ensures) numbered (le-ltb last_level (next_level a e t) level) lot);
+          (next_fit e (sym c.if-is_ill_formed.ensures) (sym c.if-is_outside_units.ensures) a g.met.F.Family.keeps t
+          (sym c.if-not-is_within_units.ensures) numbered (le-ltb last_level (next_level a e t) level) lot);
       worth = subst (λ (x : Adjusted). WorthKept e t x) (sym value) (worth_kept a g.met.F.Family.keeps e t);
     }

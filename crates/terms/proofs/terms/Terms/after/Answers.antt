@@ -6,9 +6,9 @@ pub scaled-units-requires : goal.scaled-units-requires
 scaled-units-requires g c = ((terms_parts c.args.self.now c.requires.within).units_most, (event_parts c.args.event.now c.requires.inside).ratio)
 
 -- the kept part is no more than the amount
-pub overflow-add-terms : goal.overflow-add-terms
-overflow-add-terms g c =
+pub overflow_add-terms : goal.overflow_add-terms
+overflow_add-terms g c =
     omega (arith, g.met.F.Family.keeps.parts c.cash_amount.result, c.cash_amount.ensures.most, (terms_parts c.args.self.now c.requires.within).cash)
 
-pub next-claim-requires : goal.next-claim-requires
-next-claim-requires g c = ((terms_parts c.args.self.now c.requires.within).units_most, (event_parts c.args.event.now c.requires.inside).rate)
+pub next_claim-requires : goal.next_claim-requires
+next_claim-requires g c = ((terms_parts c.args.self.now c.requires.within).units_most, (event_parts c.args.event.now c.requires.inside).rate)
