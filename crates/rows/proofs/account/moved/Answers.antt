@@ -4,8 +4,8 @@ use Rattle.rows.specs.Trade.{change}
 use Rattle.rows.proofs.Ints.{product_fits, in64, abs_add, change_in}
 use Rattle.rows.proofs.account.moved.Goals as goal
 
-pub overflow-mul-part : goal.overflow-mul-part
-overflow-mul-part c =
+pub overflow_mul-part : goal.overflow_mul-part
+overflow_mul-part c =
     let f : SFits w32 c.args.lots = c.ranges.lots in
     let g : SFits w64 c.args.lots = omega (arith, ints) in
     let t : to_z w64 c.args.to ≡ pos c.args.to = omega (arith, ints) in
@@ -14,8 +14,8 @@ overflow-mul-part c =
     let p : nat_abs (c.args.lots *ℤ change c.args.from c.args.to) ≤ 4000000000000000000 = product_fits c.args.lots (change c.args.from c.args.to) c.requires.few (change_in c.args.from c.args.to c.requires.old c.requires.new) in
     simp (t, s, to_z-of_z) (in64 (c.args.lots *ℤ change c.args.from c.args.to) (omega arith))
 
-pub overflow-add-result : goal.overflow-add-result
-overflow-add-result c =
+pub overflow_add-result : goal.overflow_add-result
+overflow_add-result c =
     let f : SFits w32 c.args.lots = c.ranges.lots in
     let g : SFits w64 c.args.lots = omega (arith, ints) in
     let e : SFits w64 c.args.equity = c.ranges.equity in

@@ -6,8 +6,8 @@ use Rattle.rows.proofs.table.Account.sells.Goals as goal
 
 pub returns : goal.returns
 returns c =
-    let f : SFits w32 c.fewer.result = record { sfits = c.fewer.type-inv } in
-    let m : SFits w64 c.moved.result = record { sfits = c.moved.type-inv } in
+    let f : SFits w32 c.fewer.result = record { sfits = c.fewer.type_inv } in
+    let m : SFits w64 c.moved.result = record { sfits = c.moved.type_inv } in
     let x : SFits w32 (get_or c.args.self.now.lots c.args.j (pos 0)) = search rules in
     let e : SFits w64 c.args.self.now.equity = search rules in
     let n : to_z w32 c.args.n ≡ pos c.args.n = omega (arith, ints) in
