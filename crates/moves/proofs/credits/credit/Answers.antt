@@ -27,7 +27,7 @@ loop-j-preserved c =
     let j = c.loop-j.j in
     let n = get_or lots j (pos 0) in
     let x : SFits w32 n = search rules in
-    let m : SFits w64 c.moved-sum.result = record { sfits = c.moved-sum.type-inv } in
+    let m : SFits w64 c.moved-sum.result = record { sfits = c.moved-sum.type_inv } in
     let in-lots : j < length lots = omega arith in
     let in-dollars : j < length dollars = omega (arith, c.requires.places.0, c.requires.places.1) in
     let e : to_z w64 (of_z w64 c.moved-sum.result) ≡ c.loop-j.sum +ℤ part lots dollars j in-lots in-dollars =

@@ -14,8 +14,8 @@ after-requires g c =
 pub any-requires : goal.any-requires
 any-requires g c = all_every _ (λ x. refl) c.args.self.now.lines.now
 
-pub returns-else-not-is-taken-in : goal.returns-else-not-is-taken-in
-returns-else-not-is-taken-in g c =
+pub returns-else-not-is_taken_in : goal.returns-else-not-is_taken_in
+returns-else-not-is_taken_in g c =
     let onset = c.args.self.now.onset in
     meets_is g.F.Family.answers onset.day onset.event c.args.self.now.lines.now c.args.place.now c.in-Taken.line c.after.result
-    c.any.result c.in-Taken.is c.if-not-is-taken-in.ensures c.after.ensures c.any.ensures
+    c.any.result c.in-Taken.is c.if-not-is_taken_in.ensures c.after.ensures c.any.ensures
