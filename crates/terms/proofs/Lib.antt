@@ -1,4 +1,5 @@
 pub mod Refusals
 pub mod Bounds
 pub mod WorthKept
+pub mod Whole
 pub mod Within

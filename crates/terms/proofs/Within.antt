@@ -15,7 +15,8 @@ use Rattle.terms.specs.declared.event.Successor.{Successor}
 use Rattle.terms.specs.declared.event.Event.{Event}
 use Rattle.terms.specs.declared.terms.Terms.{Terms}
 use Rattle.terms.proofs.Bounds.{share_in}
-use Rattle.terms.specs.Tests.{between_parts, event_parts, terms_parts}
+use Rattle.terms.specs.Tests.{between_parts, terms_parts}
+use Rattle.terms.proofs.Whole.{all_event_parts, all_terms_parts}
 
 other : (x y : Bool) → x ≡ false → x || y ≡ true → y ≡ true
 other true y e h = absurd (both_ways true e refl)
@@ -56,21 +57,21 @@ module _ (e : Event) (well : ill_formed e ≡ false) where
   module _ (inside : event_outside e ≡ false) where
     opened : (units : ℕ) → units ≤ largest_units → no_rights e.rights ≡ false → claim_fits (Open (units * e.rights.rate / 1000000000) e.rights.price e.rights.deadline) ≡ true
     opened units most n =
-        let p = event_parts e inside in
+        let p = all_event_parts e inside in
         and_from (leb (units * e.rights.rate / 1000000000) largest_units) (is_price e.rights.price && is_day e.rights.deadline)
-        (le-leb (units * e.rights.rate / 1000000000) largest_units (share_in units e.rights.rate largest_units largest_rate 1000000000 largest_units most p.rate (omega arith)))
+        (le-leb (units * e.rights.rate / 1000000000) largest_units (share_in units e.rights.rate largest_units largest_rate 1000000000 largest_units most p.inside.rate (omega arith)))
         (and_from (is_price e.rights.price) (is_day e.rights.deadline) (between_from 1 largest_price e.rights.price (price_there n) p.price) p.deadline)
 
     claim_in : (t : Terms) → terms_fit t ≡ true → claim_fits (next_claim e t) ≡ true
     claim_in t fit =
         cond_both (no_rights e.rights) t.claim (Open (t.units * e.rights.rate / 1000000000) e.rights.price e.rights.deadline)
-        (λ (c : Claim). claim_fits c ≡ true) (λ h. (terms_parts t fit).claim) (opened t.units (terms_parts t fit).units_most)
+        (λ (c : Claim). claim_fits c ≡ true) (λ h. (all_terms_parts t fit).claim) (opened t.units (terms_parts t fit).units_most)
 
     stock_in : (t : Terms) → terms_fit t ≡ true → next_stock e t ≤ largest_number → is_number (next_stock e t) ≡ true
     stock_in t fit most =
         between_from 1 largest_number (next_stock e t)
         (cond_both (no_successor e.successor) t.stock e.successor.stock (λ (n : ℕ). 1 ≤ n)
-        (λ h. (between_parts 1 largest_number t.stock (terms_parts t fit).stock).0) stock_there)
+        (λ h. (between_parts 1 largest_number t.stock (all_terms_parts t fit).stock).0) stock_there)
         most
 
     -- where level, lot and cash stay in their limits
@@ -82,7 +83,7 @@ module _ (e : Event) (well : ill_formed e ≡ false) where
         lot_misfits a (next_terms a e t) ≡ false →
         terms_fit (next_terms a e t) ≡ true
     next_fit a law t fit numbered level lot =
-        let p = terms_parts t fit in
+        let p = all_terms_parts t fit in
         let n = next_terms a e t in
         let q = or_parts (not (between 1 a.largest n.units)) (not (is_lot_cash n.cash)) lot in
         let units = between_parts 1 a.largest n.units (not-false (between 1 a.largest n.units) q.0) in
@@ -102,4 +103,4 @@ module _ (e : Event) (well : ill_formed e ≡ false) where
 pub next_numbered : (e : Event) (t : Terms) → terms_fit t ≡ true → e.successor.stock ≤ largest_number → next_stock e t ≤ largest_number
 next_numbered e t fit most =
     cond_both (no_successor e.successor) t.stock e.successor.stock (λ (n : ℕ). n ≤ largest_number)
-    (λ h. (between_parts 1 largest_number t.stock (terms_parts t fit).stock).1) (λ h. most)
+    (λ h. (between_parts 1 largest_number t.stock (all_terms_parts t fit).stock).1) (λ h. most)

@@ -99,7 +99,7 @@ claims (Fixed dollars) units = false
 pub data Figure : Type 0 where
   -- a price, the cash and the ratio of an event, and the reference price
   price_becomes : (price cash ratio becomes : ℕ) → Figure
-  -- the lines of a notice, each by what the event makes of it
+  -- the lines that an event moves together
   lines_become : Answers → Event → List Notice → Figure
   -- the units of a lot, a rights rate, and the units of the claim
   claim_covers : (units rate covers : ℕ) → Figure
@@ -116,9 +116,7 @@ abbrev pub holds : Figure → Bool
 holds (price_becomes price cash ratio becomes) =
     accepted (reference_refusals price cash ratio) && reference price cash ratio == becomes
 holds (lines_become a e notices) = all_noticed a e notices
-holds (claim_covers units rate covers) =
-    accepted (line_refusals futures 0 (offers rate) (line futures (codes "CSF") units 0))
-    && claims (next_claim (offers rate) (line futures (codes "CSF") units 0)) covers
+holds (claim_covers units rate covers) = claims (next_claim (offers rate) (line futures (codes "CSF") units 0)) covers
 holds (claim_pays units price close dollars) = claim_dollars close (Open units price 1) == dollars
 
 abbrev pub all_hold : List Figure → Bool

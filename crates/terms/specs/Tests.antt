@@ -1,6 +1,6 @@
 -- What a test of the Units definitions tells, as facts about numbers.
-use Rattle.std.specs.Prelude.{◌≡◌, ℕ, ◌≤◌, Bool, true, false, not, ◌&&◌, ◌||◌, leb, nat_le, nat_lt}
-use Rattle.std.proofs.lemmas.Bool.{and_parts, or_parts, leb-true, ltb-false, not-false}
+use Rattle.std.specs.Prelude.{◌≡◌, ℕ, ◌≤◌, Bool, true, false, not, ◌&&◌, ◌||◌, nat_le, nat_lt}
+use Rattle.std.proofs.lemmas.Bool.{and_parts, or_parts, leb-true, not-false}
 use Rattle.terms.specs.Units.{between, last_level, largest_units, largest_lot_cash, largest_price, largest_cash, largest_ratio, largest_rate, is_day, is_number, is_units, is_lot_cash, is_cash, is_ratio, is_rate}
 use Rattle.terms.specs.Events.{event_outside}
 use Rattle.terms.specs.Claims.{claim_fits}
@@ -41,11 +41,6 @@ pub record Fit (t : Terms) : Type 0 where
   pub units_least : 1 ≤ t.units
   pub units_most : t.units ≤ largest_units
   pub cash : t.cash ≤ largest_lot_cash
-  pub expiry : is_day t.series.expiry ≡ true
-  pub strike : leb t.series.strike largest_price ≡ true
-  pub stock : is_number t.stock ≡ true
-  pub strike_lot : is_units t.strike_lot ≡ true
-  pub claim : claim_fits t.claim ≡ true
 
 pub terms_parts : (t : Terms) → terms_fit t ≡ true → Fit t
 terms_parts t h =
@@ -59,25 +54,17 @@ terms_parts t h =
     let struck = and_parts (is_units t.strike_lot) cash lot.1 in
     let kept = and_parts (is_lot_cash t.cash) claim struck.1 in
     let level = and_parts (nat_le t.series.level last_level) (is_day t.series.expiry && nat_le t.series.strike largest_price) all.0 in
-    let ends = and_parts (is_day t.series.expiry) (nat_le t.series.strike largest_price) level.1 in
     record {
       level = leb-true t.series.level last_level level.0;
       units_least = (between_parts 1 largest_units t.units lot.0).0;
       units_most = (between_parts 1 largest_units t.units lot.0).1;
       cash = leb-true t.cash largest_lot_cash kept.0;
-      expiry = ends.0;
-      strike = ends.1;
-      stock = stock.0;
-      strike_lot = struck.0;
-      claim = kept.1;
     }
 
 pub record Inside (e : Event) : Type 0 where
   pub cash : e.cash ≤ largest_cash
   pub ratio : e.ratio ≤ largest_ratio
   pub rate : e.rights.rate ≤ largest_rate
-  pub price : e.rights.price ≤ largest_price
-  pub deadline : is_day e.rights.deadline ≡ true
 
 pub event_parts : (e : Event) → event_outside e ≡ false → Inside e
 event_parts e h =
@@ -89,11 +76,8 @@ event_parts e h =
     let paid = or_parts (not (is_cash e.cash)) ratio all.1 in
     let shared = or_parts (not (is_ratio e.ratio)) rate paid.1 in
     let offered = or_parts (not (is_rate e.rights.rate)) deadline shared.1 in
-    let asked = or_parts (nat_lt largest_price e.rights.price) (not (is_day e.rights.deadline)) offered.1 in
     record {
       cash = leb-true e.cash largest_cash (not-false (is_cash e.cash) paid.0);
       ratio = (between_parts 1 largest_ratio e.ratio (not-false (is_ratio e.ratio) shared.0)).1;
       rate = leb-true e.rights.rate largest_rate (not-false (is_rate e.rights.rate) offered.0);
-      price = ltb-false largest_price e.rights.price asked.0;
-      deadline = not-false (is_day e.rights.deadline) asked.1;
     }

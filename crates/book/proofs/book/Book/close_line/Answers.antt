@@ -14,35 +14,35 @@ use Rattle.rows.proofs.Priced.{lot_priced}
 use Rattle.rows.proofs.Sound.{carry_at, closed_fit}
 use Rattle.book.proofs.book.Book.close_line.Goals as goal
 
-pub dollars-of-dollars-requires : goal.dollars-of-dollars-requires
-dollars-of-dollars-requires g c = (subst (λ (l : Line). claim_fits l.terms.claim ≡ true) (sym c.line-at-line.ensures) c.requires.claimed, c.requires.closes)
+pub dollars_of-dollars-requires : goal.dollars_of-dollars-requires
+dollars_of-dollars-requires g c = (subst (λ (l : Line). claim_fits l.terms.claim ≡ true) (sym c.line_at-line.ensures) c.requires.claimed, c.requires.closes)
 
-pub final-value-requires : goal.final-value-requires
-final-value-requires g c =
-    let claimed = subst (λ (l : Line). claim_fits l.terms.claim ≡ true) (sym c.line-at-line.ensures) c.requires.claimed in
+pub final_value-requires : goal.final_value-requires
+final_value-requires g c =
+    let claimed = subst (λ (l : Line). claim_fits l.terms.claim ≡ true) (sym c.line_at-line.ensures) c.requires.claimed in
     record {
-      within = lot_priced g.F.Family.answers c.line-at-line.result (get_or c.args.self.now.table.lines c.args.place Free) c.lot.result c.args.price c.lot.ensures c.line-at-line.ensures c.requires.priced;
-      claimed = ap is_claim c.dollars-of-dollars.ensures ∙ le-leb _ largest_claim (dollars_in c.args.close c.line-at-line.result.terms.claim claimed c.requires.closes);
+      within = lot_priced g.F.Family.answers c.line_at-line.result (get_or c.args.self.now.table.lines c.args.place Free) c.lot.result c.args.price c.lot.ensures c.line_at-line.ensures c.requires.priced;
+      claimed = ap is_claim c.dollars_of-dollars.ensures ∙ le-leb _ largest_claim (dollars_in c.args.close c.line_at-line.result.terms.claim claimed c.requires.closes);
     }
 
-pub invariant-of-gain : goal.invariant-of-gain
-invariant-of-gain g c =
-    let claimed = subst (λ (l : Line). claim_fits l.terms.claim ≡ true) (sym c.line-at-line.ensures) c.requires.claimed in
-    let fit = lot_priced g.F.Family.answers c.line-at-line.result (get_or c.args.self.now.table.lines c.args.place Free) c.lot.result c.args.price c.lot.ensures c.line-at-line.ensures c.requires.priced in
-    let few = ap is_claim c.dollars-of-dollars.ensures ∙ le-leb _ largest_claim (dollars_in c.args.close c.line-at-line.result.terms.claim claimed c.requires.closes) in (
+pub invariant_of-gain : goal.invariant_of-gain
+invariant_of-gain g c =
+    let claimed = subst (λ (l : Line). claim_fits l.terms.claim ≡ true) (sym c.line_at-line.ensures) c.requires.claimed in
+    let fit = lot_priced g.F.Family.answers c.line_at-line.result (get_or c.args.self.now.table.lines c.args.place Free) c.lot.result c.args.price c.lot.ensures c.line_at-line.ensures c.requires.priced in
+    let few = ap is_claim c.dollars_of-dollars.ensures ∙ le-leb _ largest_claim (dollars_in c.args.close c.line_at-line.result.terms.claim claimed c.requires.closes) in (
       c.requires.place,
       (
-        carry_at c.args.self.now.table.lines c.args.place c.line-at-line.result c.line-at-line.ensures c.args.self.now.lines_fit,
-        (omega (arith, c.final-value.ensures, g.met.F.Family.keeps.final_in c.lot.result c.args.price c.dollars-of-dollars.result fit few), tt),
+        carry_at c.args.self.now.table.lines c.args.place c.line_at-line.result c.line_at-line.ensures c.args.self.now.lines_fit,
+        (omega (arith, c.final_value.ensures, g.met.F.Family.keeps.final_in c.lot.result c.args.price c.dollars_of-dollars.result fit few), tt),
       ),
     )
 
-pub invariant-of-self : goal.invariant-of-self
-invariant-of-self g c = (
+pub invariant_of-self : goal.invariant_of-self
+invariant_of-self g c = (
   all_set line_fits c.args.self.now.table.lines c.args.place Free refl c.args.self.now.lines_fit,
   (
-    subst (λ (rows : List Account). all_of row_fits rows ≡ true) (sym c.give-last.ensures)
-        (closed_fit c.args.self.now.table.accounts c.args.place (change c.line-at-line.result.carry c.final-value.result) c.args.self.now.rows_fit (sym c.if-passes-a-limit.ensures)),
+    subst (λ (rows : List Account). all_of row_fits rows ≡ true) (sym c.give_last.ensures)
+        (closed_fit c.args.self.now.table.accounts c.args.place (change c.line_at-line.result.carry c.final_value.result) c.args.self.now.rows_fit (sym c.if-passes_a_limit.ensures)),
     (c.args.self.now.count_in, tt),
   ),
 )

@@ -11,6 +11,6 @@ revalue-requires g c =
     let found = found_by a c.args.name c.series_of.result t.lines c.in-Some.place c.series_of.ensures c.in-Some.ensures.first in
     record {
       place = search rules;
-      priced = found_priced a c.args.name t.lines c.in-Some.place found c.args.self.now.lines_fit c.args.price (sym c.if-is-malformed.ensures) (sym c.if-is-misfit.ensures) (mark_inside c.args.day c.args.name c.args.price (sym c.if-is-mark-outside.ensures));
+      priced = found_priced a c.args.name t.lines c.in-Some.place found c.args.self.now.lines_fit c.args.price (sym c.if-is_malformed.ensures) (sym c.if-is_misfit.ensures) (mark_inside c.args.day c.args.name c.args.price (sym c.if-is_mark_outside.ensures));
       fit = found_fit a c.args.name t.lines c.in-Some.place found c.args.self.now.lines_fit;
     }
