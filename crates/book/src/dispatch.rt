@@ -1,7 +1,7 @@
 //! One call, whichever it is.
 ghost use Rattle.std.specs.Prelude.{◌≡◌};
 ghost use Rattle.terms.specs.Refusals.{answer, Accepted};
-ghost use Rattle.rows.specs.Calls.{refusal as refusal-of, after as after-of, done as done-of, settled};
+ghost use Rattle.rows.specs.Calls.{refusal as refusal_of, after as after_of, done as done_of, settled};
 
 use crate::book::Book;
 use rows::call::{Call, Done};
@@ -10,10 +10,19 @@ use terms::refusal::Refusal;
 
 impl<F: Family> Book<F> {
     /// Makes one call, whichever it is.
-    pub fn make(&mut self, call: Call) -> Result<Done, Refusal>
-        ensures refusal { answer result ≡ refusal-of F.Family.answers self.old.table call }
-        ensures done { Accepted result (λ x. x ≡ done-of self.old.table call) }
-        ensures after { self.new.table ≡ settled (answer result) (after-of F.Family.answers self.old.table call) self.old.table }
+    pub fn make(&mut self, call: Call) -> Result<(), Refusal>
+        ensures refusal { answer result ≡ refusal_of F.Family.answers self.old.table call }
+        ensures after { self.new.table ≡ settled (answer result) (after_of F.Family.answers self.old.table call) self.old.table }
+    {
+        self.carry_out(call)?;
+        Ok(())
+    }
+
+    /// Makes one call, and says what it did.
+    pub fn carry_out(&mut self, call: Call) -> Result<Done, Refusal>
+        ensures refusal { answer result ≡ refusal_of F.Family.answers self.old.table call }
+        ensures done { Accepted result (λ x. x ≡ done_of self.old.table call) }
+        ensures after { self.new.table ≡ settled (answer result) (after_of F.Family.answers self.old.table call) self.old.table }
     {
         match call {
             Call::Opening { day, account } => self.opening(day, account)?,

@@ -4,7 +4,8 @@ ghost use Rattle.terms.specs.Refusals.{answer, first};
 ghost use Rattle.terms.specs.Terms.{lot_of, terms_fit};
 ghost use Rattle.terms.specs.Family.{priced};
 ghost use Rattle.rows.specs.Rows.{line_at};
-ghost use Rattle.rows.specs.Mark.{revalue_refusals, revalue_table, mark_outside, mark_refusals, mark_table};
+ghost use Rattle.rows.specs.Revalue.{revalue_refusals, revalue_table};
+ghost use Rattle.rows.specs.Mark.{mark_outside, mark_refusals, mark_table};
 ghost use Rattle.rows.specs.Calls.{settled};
 
 use crate::book::Book;

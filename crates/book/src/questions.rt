@@ -1,7 +1,7 @@
 //! The questions, which alter nothing.
 ghost use Rattle.std.specs.Prelude.{◌≡◌};
 ghost use Rattle.terms.specs.Refusals.{answer, first, Accepted};
-ghost use Rattle.terms.specs.Reference.{reference as reference-of, reference_refusals};
+ghost use Rattle.terms.specs.Reference.{reference as reference_of, reference_refusals};
 ghost use Rattle.rows.specs.Questions.{terms_refusals, terms_answer, lots_refusals, lots_answer, equity_refusals, equity_answer};
 
 use crate::book::Book;
@@ -81,7 +81,7 @@ impl<F: Family> Book<F> {
         ratio: Billionths,
     ) -> Result<Cents, Refusal>
         ensures refusal { answer result ≡ first (reference_refusals price cash ratio) }
-        ensures value { Accepted result (λ cents. cents ≡ reference-of price cash ratio) }
+        ensures value { Accepted result (λ cents. cents ≡ reference_of price cash ratio) }
     {
         reference::reference_price(price, cash, ratio)
     }

@@ -4,7 +4,8 @@ ghost use Rattle.terms.specs.Refusals.{answer, first};
 ghost use Rattle.terms.specs.Terms.{lot_of};
 ghost use Rattle.terms.specs.Family.{priced};
 ghost use Rattle.rows.specs.Rows.{line_at};
-ghost use Rattle.rows.specs.Trade.{deal_refusals, deal_table, trade_outside, trade_refusals, trade_table};
+ghost use Rattle.rows.specs.Deal.{deal_refusals, deal_table};
+ghost use Rattle.rows.specs.Trade.{trade_outside, trade_refusals, trade_table};
 ghost use Rattle.rows.specs.Calls.{settled};
 
 use crate::book::Book;

@@ -52,7 +52,7 @@ module _ (a : Answers) (t : Table) (g : Ledger) (day : ℕ) (name : Name) (price
   l = line_at t p
 
   abbrev d : ℤ
-  d = mark_gain a t p price
+  d = mark_gain a t name price
 
   abbrev old : List Account
   old = t.accounts
@@ -61,7 +61,7 @@ module _ (a : Answers) (t : Table) (g : Ledger) (day : ℕ) (name : Name) (price
   new = map (gained p d) old
 
   abbrev l' : Line
-  l' = carried (mark_value a t p price) l
+  l' = carried (mark_value a t name price) l
 
   found : Live t k
   found = live t k (accepted (mark_refusals a t day name price) 4 refl ok)

@@ -76,7 +76,7 @@ module _ (a : Answers) (t : Table) (g : Ledger) (day : ℕ) (name : Name) (b s p
   l = line_at t p
 
   abbrev v : ℕ
-  v = trade_value a t p price
+  v = trade_value a t name price
 
   abbrev gain : ℤ
   gain = pos n *ℤ change v l.carry
@@ -97,10 +97,10 @@ module _ (a : Answers) (t : Table) (g : Ledger) (day : ℕ) (name : Name) (b s p
   rs = account_at t is
 
   abbrev B : Account
-  B = buyer_after a t p ib price n
+  B = buyer_after a t name b price n
 
   abbrev S : Account
-  S = seller_after a t p is price n
+  S = seller_after a t name s price n
 
   abbrev mid : List Account
   mid = set old ib B

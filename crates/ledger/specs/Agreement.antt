@@ -6,13 +6,12 @@ use Rattle.terms.specs.declared.code.Series.{Series}
 use Rattle.terms.specs.declared.terms.Terms.{Terms}
 use Rattle.rows.specs.Rows.{lots_in, holds, found_line, found_account, missing, place, row, line_at, account_at}
 use Rattle.rows.specs.Listing.{clashes}
-use Rattle.rows.specs.Calls.{run, empty}
+use Rattle.rows.specs.Calls.{refusal, step, run, empty}
 use Rattle.rows.specs.declared.table.Place.{Place}
 use Rattle.rows.specs.declared.table.Place.TheVariants.{Free, Taken}
 use Rattle.rows.specs.declared.table.Account.{Account}
 use Rattle.rows.specs.declared.table.Table.{Table}
 use Rattle.rows.specs.declared.call.Call.{Call}
-use Rattle.ledger.specs.Runs.{numbers_given}
 use Rattle.ledger.specs.Ledger.{Entry, Ledger, blank, total, is_named, posted}
 
 -- the same things in another order
@@ -87,9 +86,10 @@ numbers rs = map (λ r. r.number) rs
 abbrev pub NumbersDiffer : List ℕ → Type 0
 NumbersDiffer ns = (i j : ℕ) → 1 ≤ slice_index ns i → slice_index ns i ≡ slice_index ns j → i ≡ j
 
--- which calls of a list are accepted: those that are given no number
+-- which calls of a list are accepted
 abbrev pub outcomes : Answers → Table → List Call → List Bool
-outcomes a t cs = map (λ n. nat_eq n 0) (numbers_given a t cs)
+outcomes a t [] = []
+outcomes a t (c ∷ cs) = (refusal a t c == 0) ∷ outcomes a (step a t c) cs
 
 -- the ledger of a list of calls, made on an empty book
 abbrev pub ledger_of : Answers → List Call → Ledger

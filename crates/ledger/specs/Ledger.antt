@@ -44,7 +44,7 @@ where_so p f es = map (λ e. cond (p e) (f e) e) es
 
 -- the line of a name, changed
 abbrev pub at_name : Series → (Entry → Entry) → List Entry → List Entry
-at_name k f es = where_so (is_named k) f es
+at_name k f es = map (λ e. cond (is_named k e) (f e) e) es
 
 -- the lines but for that of a name
 abbrev pub without : Series → List Entry → List Entry
@@ -65,7 +65,7 @@ dealt buyer seller lots e = record { line = e.line; lots = λ n. e.lots n +ℤ b
 
 -- and the trade value is paid for each, in the line of the name
 abbrev pub paid : Answers → Series → ℕ → ℕ → Entry → ℤ
-paid a k price lots = if_so (is_named k) (λ e. pos lots *ℤ pos (a.trade (lot_of e.line.terms) price))
+paid a k price lots e = cond (is_named k e) (pos lots *ℤ pos (a.trade (lot_of e.line.terms) price)) (pos 0)
 
 -- a mark: the line is carried at its new mark value
 abbrev pub marked : Answers → ℕ → Entry → Entry

@@ -1,20 +1,37 @@
 //! The run over a list of calls, and the promises that hold after every such list.
 #![tactic(auto)]
 ghost use Rattle.rows.specs.Calls.{empty, run as run_of};
+ghost use Rattle.ledger.specs.Agreement.{Balanced, Agrees, Answered, Orderly, ledger_of};
+ghost use Rattle.ledger.specs.Asked.{Asked, RowsKept};
+ghost use Rattle.ledger.specs.Worths.{WorthsKept};
 ghost use Rattle.ledger.specs.Promises.{Promises};
 ghost use Rattle.ledger.specs.Runs.{Noted, outcome_number, numbers_given};
 ghost use Rattle.std.specs.Prelude.{◌≡◌, map, IfOk, slice_set};
 ghost use Rattle.terms.specs.Refusals.{answer as answer_of};
 
 use book::book::Book;
-use rows::call::{Call, Done};
+use rows::call::Call;
 use std::alloc::{AllocError, Global};
 use terms::family::Family;
 use terms::refusal::Refusal;
 
-/// The calls one after the other on a new book, with each call's refusal noted in `given`, as far as it
-/// reaches. It allocates nothing, and has no other answer.
-pub fn run<F: Family>(calls: &[Call], given: &mut [Option<Refusal>]) -> Book<F>
+/// The calls one after the other on a new book. It allocates nothing, and has no other answer.
+pub fn run<F: Family>(calls: &[Call]) -> Book<F>
+    ensures ran { result.table ≡ run_of F.Family.answers empty calls.now }
+    ensures balanced { Balanced result.table }
+    ensures agrees { Agrees result.table (ledger_of F.Family.answers calls.now) }
+    ensures answered { Answered result.table (ledger_of F.Family.answers calls.now) }
+    ensures asked { Asked F.Family.answers result.table (ledger_of F.Family.answers calls.now) }
+    ensures orderly { Orderly result.table }
+    ensures rows { RowsKept result.table }
+    ensures worth { WorthsKept F.Family.answers empty calls.now }
+{
+    let mut given: [Option<Refusal>; 0] = [];
+    run_noted::<F>(calls, &mut given)
+}
+
+/// Such a run, with each call's refusal noted in `given`, as far as it reaches.
+pub fn run_noted<F: Family>(calls: &[Call], given: &mut [Option<Refusal>]) -> Book<F>
     ensures ran { result.table ≡ run_of F.Family.answers empty calls.now }
     ensures noted { Noted (numbers_given F.Family.answers empty calls.now) given.old given.new }
     ensures kept { Promises F.Family.answers calls.now result.table }
@@ -48,11 +65,11 @@ pub fn refusals<F: Family>(heap: Global, calls: &[Call]) -> Result<Vec<Option<Re
     Ok(given)
 }
 
-fn refusal_in(answer: Result<Done, Refusal>) -> Option<Refusal>
+fn refusal_in(answer: Result<(), Refusal>) -> Option<Refusal>
     ensures { outcome_number result ≡ answer_of answer }
 {
     match answer {
-        Ok(_) => None,
+        Ok(()) => None,
         Err(refusal) => Some(refusal),
     }
 }

@@ -3,7 +3,7 @@ ghost use Rattle.std.specs.Prelude.{◌≡◌, ◌≤◌, true, map, length, ◌
 ghost use Rattle.lookup.specs.Seek.{any_of};
 ghost use Rattle.sweep.specs.Sweep.{all_of};
 ghost use Rattle.rows.specs.Fits.{few, line_fits, row_fits, entry_fits};
-ghost use Rattle.rows.specs.Adjustment.{entry, credit as credit-of, credited, credit_past};
+ghost use Rattle.rows.specs.Adjustment.{entry, credit as credit_of, credited, credit_past};
 
 use crate::entries::Entries;
 use crate::onset::Onset;
@@ -43,7 +43,7 @@ impl Entries {
     // The equity of an account after its lots are credited.
     fn equity_of(&self, account: &Account) -> i64
         requires { row_fits account.now ≡ true }
-        ensures { result ≡ account.now.equity +ℤ credit-of account.now.lots self.now.dollars }
+        ensures { result ≡ account.now.equity +ℤ credit_of account.now.lots self.now.dollars }
     {
         plus(account.equity, credit(&account.lots, &self.dollars))
     }
@@ -81,7 +81,7 @@ fn credit(lots: &[i32], dollars: &[Dollars]) -> i64
     requires places { (length lots.now ≡ 48) × (length dollars.now ≡ 48) }
     requires few { all_of few lots.now ≡ true }
     requires small { all_of entry_fits dollars.now ≡ true }
-    ensures value { result ≡ credit-of lots.now dollars.now }
+    ensures value { result ≡ credit_of lots.now dollars.now }
     ensures bound { unsigned_abs result ≤ 3840000000000000000 }
 {
     let mut sum = 0;

@@ -5,7 +5,9 @@ pub mod Names
 pub mod Opening
 pub mod Listing
 pub mod Trade
+pub mod Deal
 pub mod Mark
+pub mod Revalue
 pub mod Adjustment
 pub mod Fixing
 pub mod Expiry

@@ -5,7 +5,7 @@ use Rattle.terms.specs.Units.{most_equity, is_day, is_price}
 use Rattle.terms.specs.Terms.{lot_of}
 use Rattle.terms.specs.Family.{Answers}
 use Rattle.terms.specs.declared.code.Name.{Name}
-use Rattle.rows.specs.Rows.{found_line, missing, place, line_at, lots_in, on_day}
+use Rattle.rows.specs.Rows.{found_line, missing, place, line_at, lots_in}
 use Rattle.rows.specs.Fits.{past}
 use Rattle.rows.specs.Names.{malformed, misfit, series_of}
 use Rattle.rows.specs.Trade.{change}
@@ -24,25 +24,11 @@ gains_past j gain r = past most_equity (r.equity +ℤ (lots_in j r *ℤ gain))
 abbrev pub carried : ℕ → Line → Line
 carried value l = record { terms = l.terms; carry = value }
 
--- the new mark value of the line in a place, and what it is above the carry
-abbrev pub mark_value : Answers → Table → ℕ → ℕ → ℕ
-mark_value a t j price = a.mark (lot_of (line_at t j).terms) price
+abbrev pub mark_value : Answers → Table → Name → ℕ → ℕ
+mark_value a t n price = a.mark (lot_of (line_at t (place t (series_of a n))).terms) price
 
-abbrev pub mark_gain : Answers → Table → ℕ → ℕ → ℤ
-mark_gain a t j price = change (line_at t j).carry (mark_value a t j price)
-
--- by place: the limit that a mark may meet, and what it leaves
-abbrev pub revalue_refusals : Answers → Table → ℕ → ℕ → List (ℕ × Bool)
-revalue_refusals a t j price = (27, any_of (gains_past j (mark_gain a t j price)) t.accounts) ∷ []
-
-abbrev pub revalue_table : Answers → Table → ℕ → ℕ → Table
-revalue_table a t j price =
-    record {
-      lines = slice_set t.lines j (Taken (carried (mark_value a t j price) (line_at t j)));
-      accounts = map (gained j (mark_gain a t j price)) t.accounts;
-      count = t.count;
-      day = t.day;
-    }
+abbrev pub mark_gain : Answers → Table → Name → ℕ → ℤ
+mark_gain a t n price = change (line_at t (place t (series_of a n))).carry (mark_value a t n price)
 
 abbrev pub mark_outside : ℕ → Name → ℕ → Bool
 mark_outside day n price = not (is_day day) || (not (is_day n.expiry) || not (is_price price))
@@ -55,7 +41,16 @@ mark_refusals a t day n price =
     ∷ (11, nat_lt day t.day)
     ∷ (12, missing (found_line t (series_of a n)))
     ∷ (19, nat_lt n.expiry day)
-    ∷ revalue_refusals a t (place t (series_of a n)) price
+    ∷ (27, any_of (gains_past (place t (series_of a n)) (mark_gain a t n price)) t.accounts)
+    ∷ []
 
 abbrev pub mark_table : Answers → Table → ℕ → Name → ℕ → Table
-mark_table a t day n price = on_day day (revalue_table a t (place t (series_of a n)) price)
+mark_table a t day n price =
+    record {
+      lines =
+          slice_set t.lines (place t (series_of a n))
+          (Taken (carried (mark_value a t n price) (line_at t (place t (series_of a n)))));
+      accounts = map (gained (place t (series_of a n)) (mark_gain a t n price)) t.accounts;
+      count = t.count;
+      day = day;
+    }

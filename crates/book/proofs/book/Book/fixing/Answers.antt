@@ -8,12 +8,15 @@ use Rattle.book.proofs.book.Book.fixing.Goals as goal
 
 pub invariant_of-fix : goal.invariant_of-fix
 invariant_of-fix g c =
-    (fixing_inside c.args.day c.args.stock c.args.deadline c.args.close (sym c.if-is_fixing_outside.ensures), tt)
+    record {
+      most = fixing_inside c.args.day c.args.stock c.args.deadline c.args.close (sym c.if-is_fixing_outside.ensures);
+    }
 
 pub invariant_of-self : goal.invariant_of-self
 invariant_of-self g c =
-    let a = c.args in (
-      subst (λ (ls : List Place). all_of line_fits ls ≡ true) (sym c.fix_lines.ensures)
-          (fixed_fit a.stock a.deadline a.close (fixing_inside a.day a.stock a.deadline a.close (sym c.if-is_fixing_outside.ensures)) a.self.now.table.lines a.self.now.lines_fit),
-      (a.self.now.rows_fit, (a.self.now.count_in, tt)),
-    )
+    let a = c.args in record {
+      lines_fit = subst (λ (ls : List Place). all_of line_fits ls ≡ true) (sym c.fix_lines.ensures)
+          (fixed_fit a.stock a.deadline a.close (fixing_inside a.day a.stock a.deadline a.close (sym c.if-is_fixing_outside.ensures)) a.self.now.table.lines a.self.now.lines_fit);
+      rows_fit = a.self.now.rows_fit;
+      count_in = a.self.now.count_in;
+    }

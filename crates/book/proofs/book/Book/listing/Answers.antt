@@ -41,10 +41,8 @@ invariant_of-self g c =
     ap (λ (l : Lot). priced a l c.args.price) (c.lot.ensures ∙ ap lot_of c.listed-terms.ensures)
     ∙ priced_from a (listed_terms a n c.args.stock c.args.units) c.args.price (series_fit a n (standard_formed a law n standard) misfit) fit inside.price_in in
     let value : c.mark_value-carry.result ≤ largest_value = omega (arith, c.mark_value-carry.ensures, law.mark_in c.lot.result c.args.price priced-lot) in
-    let terms : terms_fit c.listed-terms.result ≡ true = subst (λ (t : Terms). terms_fit t ≡ true) (sym c.listed-terms.ensures) fit in (
-      all_set line_fits c.args.self.now.table.lines _ (Taken (record { terms = c.listed-terms.result; carry = c.mark_value-carry.result })) (line_in c.listed-terms.result c.mark_value-carry.result terms value) c.args.self.now.lines_fit,
-      (
-        c.args.self.now.rows_fit,
-        (c.args.self.now.count_in, tt),
-      ),
-    )
+    let terms : terms_fit c.listed-terms.result ≡ true = subst (λ (t : Terms). terms_fit t ≡ true) (sym c.listed-terms.ensures) fit in record {
+      lines_fit = all_set line_fits c.args.self.now.table.lines _ (Taken (record { terms = c.listed-terms.result; carry = c.mark_value-carry.result })) (line_in c.listed-terms.result c.mark_value-carry.result terms value) c.args.self.now.lines_fit;
+      rows_fit = c.args.self.now.rows_fit;
+      count_in = c.args.self.now.count_in;
+    }

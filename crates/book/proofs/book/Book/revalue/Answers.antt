@@ -14,23 +14,19 @@ use Rattle.book.proofs.book.Book.revalue.Goals as goal
 
 pub invariant_of-gain : goal.invariant_of-gain
 invariant_of-gain g c =
-    let fit = lot_priced g.F.Family.answers c.line_at-line.result (get_or c.args.self.now.table.lines c.args.place Free) c.lot.result c.args.price c.lot.ensures c.line_at-line.ensures c.requires.priced in (
-      c.requires.place,
-      (
-        carry_at c.args.self.now.table.lines c.args.place c.line_at-line.result c.line_at-line.ensures c.args.self.now.lines_fit,
-        (omega (arith, c.mark_value-value.ensures, g.met.F.Family.keeps.mark_in c.lot.result c.args.price fit), tt),
-      ),
-    )
+    let fit = lot_priced g.F.Family.answers c.line_at-line.result (get_or c.args.self.now.table.lines c.args.place Free) c.lot.result c.args.price c.lot.ensures c.line_at-line.ensures c.requires.priced in record {
+      within = c.requires.place;
+      old = carry_at c.args.self.now.table.lines c.args.place c.line_at-line.result c.line_at-line.ensures c.args.self.now.lines_fit;
+      new = omega (arith, c.mark_value-value.ensures, g.met.F.Family.keeps.mark_in c.lot.result c.args.price fit);
+    }
 
 pub invariant_of-self : goal.invariant_of-self
 invariant_of-self g c =
     let fit = lot_priced g.F.Family.answers c.line_at-line.result (get_or c.args.self.now.table.lines c.args.place Free) c.lot.result c.args.price c.lot.ensures c.line_at-line.ensures c.requires.priced in
     let value : c.mark_value-value.result ≤ largest_value = omega (arith, c.mark_value-value.ensures, g.met.F.Family.keeps.mark_in c.lot.result c.args.price fit) in
-    let terms : terms_fit c.line_at-line.result.terms ≡ true = subst (λ (l : Line). terms_fit l.terms ≡ true) (sym c.line_at-line.ensures) c.requires.fit in (
-      all_set line_fits c.args.self.now.table.lines c.args.place (Taken (record { terms = c.line_at-line.result.terms; carry = c.mark_value-value.result })) (line_in c.line_at-line.result.terms c.mark_value-value.result terms value) c.args.self.now.lines_fit,
-      (
-        subst (λ (rows : List Account). all_of row_fits rows ≡ true) (sym c.give.ensures)
-            (gained_fit c.args.self.now.table.accounts c.args.place (change c.line_at-line.result.carry c.mark_value-value.result) c.args.self.now.rows_fit (sym c.if-passes_a_limit.ensures)),
-        (c.args.self.now.count_in, tt),
-      ),
-    )
+    let terms : terms_fit c.line_at-line.result.terms ≡ true = subst (λ (l : Line). terms_fit l.terms ≡ true) (sym c.line_at-line.ensures) c.requires.fit in record {
+      lines_fit = all_set line_fits c.args.self.now.table.lines c.args.place (Taken (record { terms = c.line_at-line.result.terms; carry = c.mark_value-value.result })) (line_in c.line_at-line.result.terms c.mark_value-value.result terms value) c.args.self.now.lines_fit;
+      rows_fit = subst (λ (rows : List Account). all_of row_fits rows ≡ true) (sym c.give.ensures)
+          (gained_fit c.args.self.now.table.accounts c.args.place (change c.line_at-line.result.carry c.mark_value-value.result) c.args.self.now.rows_fit (sym c.if-passes_a_limit.ensures));
+      count_in = c.args.self.now.count_in;
+    }

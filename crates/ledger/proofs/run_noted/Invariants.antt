@@ -1,6 +1,6 @@
 use Rattle.rows.specs.Calls.{empty, run}
 use Rattle.ledger.specs.Runs.{Noted, numbers_given}
-use Rattle.ledger.proofs.run.Given as goal
+use Rattle.ledger.proofs.run_noted.Given as goal
 use Rattle.std.proofs.Common.{◌≡◌, take}
 
 abbrev pub invariant-loop-i : goal.invariant-loop-i

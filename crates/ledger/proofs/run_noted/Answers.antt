@@ -9,7 +9,7 @@ use Rattle.ledger.proofs.Kept.{promises}
 use Rattle.ledger.proofs.Main.{run_more, step_is}
 use Rattle.ledger.proofs.Noting.{none_noted, as_many, one_noted}
 use Rattle.ledger.proofs.Numbers.{numbers_more}
-use Rattle.ledger.proofs.run.Goals as goal
+use Rattle.ledger.proofs.run_noted.Goals as goal
 use Rattle.std.proofs.lemmas.List.{take_all, length-take-le}
 
 pub loop-i-init : goal.loop-i-init
