@@ -1,6 +1,6 @@
 -- The credits of all rows, added up by place: rows then places, or places then rows.
 use Rattle.std.proofs.Common.{◌≡◌, ℕ, suc, ◌*◌, Bool, true, false, cond, List, [], ◌∷◌, map, get_or, ℤ, pos, ◌+ℤ◌, ◌*ℤ◌, sym, refl, ap, ◌∙◌, ap₂}
-use lib.IntN.{*ℤZero}
+use lib.IntN.{*ℤ-zero}
 use Rattle.terms.specs.Family.{Answers}
 use Rattle.terms.specs.Adjust.{takes_in, booked_part}
 use Rattle.terms.specs.declared.event.Event.{Event}
@@ -58,11 +58,11 @@ module _ (p : Account → Bool) (rs : List Account) where
 module _ (a : Answers) (day : ℕ) (event : Event) (rs : List Account) (n : ℕ) where
   at_place : (b : Bool) (lots : ℤ) (dollars : ℕ) → lots *ℤ pos (cond b dollars 0 * 1000000) ≡ cond b (lots *ℤ pos (dollars * 1000000)) (pos 0)
   at_place true lots dollars = refl
-  at_place false lots dollars = *ℤZero lots
+  at_place false lots dollars = *ℤ-zero lots
 
   pub spread_booked : (j : ℕ) (ls : List Place) → spread (λ i. lots_of rs i n) j (map (entry a day event) ls) ≡ total (booked a day event n) (view_from rs j ls)
   spread_booked j [] = refl
-  spread_booked j (Free ∷ ls) = second_alone _ _ _ (*ℤZero (lots_of rs j n)) (spread_booked (suc j) ls)
+  spread_booked j (Free ∷ ls) = second_alone _ _ _ (*ℤ-zero (lots_of rs j n)) (spread_booked (suc j) ls)
   spread_booked j (Taken l ∷ ls) =
       ap₂ (λ (x y : ℤ). x +ℤ y)
       (at_place (takes_in day event l.terms) (lots_of rs j n) (booked_part a event l.terms))

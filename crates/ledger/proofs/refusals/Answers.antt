@@ -27,9 +27,9 @@ loop-i-preserved g c =
     let call = get_or calls c.loop-i.i (Opening 0 0) in (
       step_is a c.loop-i.book.table c.make-answer.new.self.table t call _ c.make-answer.ensures.refusal c.make-answer.ensures.after c.loop-i.invariant.0
           ∙ sym (run_more a empty calls c.loop-i.i (Opening 0 0) c.loop-i-test.true),
-      one_more (vec_items c.loop-i.given) (vec_items c.push.new.self) c.refusal-in.result _ _
-          c.in-ok-push.ensures.items c.loop-i.invariant.1
-          (c.refusal-in.ensures ∙ (c.make-answer.ensures.refusal ∙ ap (λ (u : Table). refusal a u call) c.loop-i.invariant.0))
+      one_more (vec_items c.loop-i.given) (vec_items c.push.new.self) c.refusal_in.result _ _
+          c.in_ok-push.ensures.items c.loop-i.invariant.1
+          (c.refusal_in.ensures ∙ (c.make-answer.ensures.refusal ∙ ap (λ (u : Table). refusal a u call) c.loop-i.invariant.0))
           ∙ sym (numbers_more a empty calls c.loop-i.i (Opening 0 0) c.loop-i-test.true),
     )
 

@@ -27,8 +27,8 @@ loop-i-preserved g c =
           ∙ sym (run_more a empty calls c.loop-i.i (Opening 0 0) c.loop-i-test.true),
       subst (λ (ns : List ℕ). Noted ns c.args.given.now c.note.new.given) (sym (numbers_more a empty calls c.loop-i.i (Opening 0 0) c.loop-i-test.true))
           (subst (λ (later : List (Option Refusal)). Noted (before ++ (refusal a t call ∷ [])) c.args.given.now later) (sym c.note.ensures)
-          (one_noted before (refusal a t call) c.loop-i.i c.args.given.now c.loop-i.given c.refusal-in.result many
-          (c.refusal-in.ensures ∙ (c.make-answer.ensures.refusal ∙ ap (λ (u : Table). refusal a u call) c.loop-i.invariant.0))
+          (one_noted before (refusal a t call) c.loop-i.i c.args.given.now c.loop-i.given c.refusal_in.result many
+          (c.refusal_in.ensures ∙ (c.make-answer.ensures.refusal ∙ ap (λ (u : Table). refusal a u call) c.loop-i.invariant.0))
           c.loop-i.auto.given c.loop-i.invariant.1)),
     )
 
