@@ -1,4 +1,5 @@
 //! Events and the lines that they meet.
+use std::process::Abort;
 use std::test::*;
 use terms::claim::Claim;
 use terms::code::{Code, Name, Prefix};
@@ -858,35 +859,35 @@ const JUDGED: [Case; 52] = [
 ];
 
 impl Case {
-    fn check(&self) -> Result<(), Fail> {
+    fn check(&self, rt: &impl Abort) -> Result<(), Fail> {
         match self.0.0 {
-            Book::Futures => self.check_in::<Futures>(0, 0),
-            Book::Options => self.check_in::<Options>(1, 5_000),
+            Book::Futures => self.check_in::<Futures>(rt, 0, 0),
+            Book::Options => self.check_in::<Options>(rt, 1, 5_000),
         }
     }
 
-    fn check_in<K: Family>(&self, right: u8, strike: u32) -> Result<(), Fail> {
+    fn check_in<K: Family>(&self, rt: &impl Abort, right: u8, strike: u32) -> Result<(), Fail> {
         match (self.adjusted::<K>(right, strike), self.2) {
             (Ok(found), Outcome::Becomes(code, units, cash, booked, claimed)) => {
-                assert_eq!(
+                assert_eq!(rt;
                     letters::<K>(&found.0),
                     Some((code[0], code[1], code[2] as char))
                 );
-                assert_eq!((found.0.units, found.0.cash), (units, cash));
-                assert_eq!((found.1, claim_units(&found.0.claim)), (booked, claimed));
-                assert_eq!(found.0.strike_lot, self.0.2);
+                assert_eq!(rt; (found.0.units, found.0.cash), (units, cash));
+                assert_eq!(rt; (found.1, claim_units(&found.0.claim)), (booked, claimed));
+                assert_eq!(rt; found.0.strike_lot, self.0.2);
                 Ok(())
             }
             (Ok(_), Outcome::Refused(number)) => {
-                assert_eq!(0, number);
+                assert_eq!(rt; 0, number);
                 Ok(())
             },
             (Err(refusal), Outcome::Refused(number)) => {
-                assert_eq!(refusal.number(), number);
+                assert_eq!(rt; refusal.number(), number);
                 Ok(())
             },
             (Err(refusal), Outcome::Becomes(_, _, _, _, _)) => {
-                assert_eq!(refusal.number(), 0);
+                assert_eq!(rt; refusal.number(), 0);
                 Ok(())
             },
         }
@@ -950,17 +951,17 @@ fn claim_units(claim: &Claim) -> u32 {
 }
 
 #[test]
-fn published() -> Result<(), Fail> {
+fn published(rt: HostRuntime) -> Result<(), Fail> {
     for case in &PUBLISHED {
-        case.check()?;
+        case.check(&rt)?;
     }
     Ok(())
 }
 
 #[test]
-fn judged() -> Result<(), Fail> {
+fn judged(rt: HostRuntime) -> Result<(), Fail> {
     for case in &JUDGED {
-        case.check()?;
+        case.check(&rt)?;
     }
     Ok(())
 }
