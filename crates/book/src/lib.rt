@@ -11,3 +11,5 @@ mod mark;
 mod opening;
 mod questions;
 mod trade;
+
+pub use rows::{call, table};
