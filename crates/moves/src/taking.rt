@@ -180,12 +180,13 @@ impl<F: Family> Test for LotLeaves<F> {
     fn test(&self, place: &Place) -> bool {
         match place {
             Place::Free => false,
-            Place::Taken(line) => line.terms.is_taken_in(self.onset.day, &self.onset.event)
-                && line
-                    .terms
-                    .after::<F>(&self.onset.event)
-                    .terms
-                    .has_misfit_lot::<F>(),
+            Place::Taken(line) => {
+                if !line.terms.is_taken_in(self.onset.day, &self.onset.event) {
+                    return false;
+                }
+                let after = line.terms.after::<F>(&self.onset.event);
+                after.terms.has_misfit_lot::<F>()
+            }
         }
     }
 }

@@ -18,7 +18,7 @@ buys-bought-requires g c =
       c.requires.place,
       (
         c.requires.few,
-        held_at c.args.self.now.table.accounts c.args.b c.args.place c.trade_value-value.result c.line_at-line.result.carry c.args.self.now.rows_fit value carry,
+        held_at c.args.self.now.table.accounts c.args.b c.args.place _ _ c.args.self.now.rows_fit (omega arith) (omega arith),
       ),
     )
 
@@ -30,7 +30,7 @@ sells-sold-requires g c =
       c.requires.place,
       (
         c.requires.few,
-        held_at c.args.self.now.table.accounts c.args.s c.args.place c.line_at-line.result.carry c.trade_value-value.result c.args.self.now.rows_fit carry value,
+        held_at c.args.self.now.table.accounts c.args.s c.args.place _ _ c.args.self.now.rows_fit (omega arith) (omega arith),
       ),
     )
 
