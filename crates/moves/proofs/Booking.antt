@@ -1,5 +1,5 @@
 -- What an event books: bounds of the dollars for a lot, and the sum over the places of a row.
-use Rattle.std.proofs.Common.{◌≡◌, ℕ, zero, suc, ◌+◌, ◌*◌, ◌<◌, ◌≤◌, Bool, true, false, cond, List, [], ◌∷◌, map, length, get_or, drop, ℤ, pos, ◌+ℤ◌, ◌-ℤ◌, ◌*ℤ◌, nat_abs, sym, refl, ap, ◌∙◌, subst, add-one, arith}
+use Rattle.std.proofs.Common.{◌≡◌, ℕ, zero, suc, ◌+◌, ◌*◌, ◌<◌, ◌≤◌, Bool, true, false, cond, List, [], ◌∷◌, map, length, get_or, drop, ℤ, pos, ◌+ℤ◌, ◌*ℤ◌, nat_abs, sym, refl, ap, ◌∙◌, add-one, arith}
 use Rattle.std.proofs.lemmas.List.{drop_all}
 use Rattle.std.proofs.lemmas.Int.{ints}
 use Rattle.std.proofs.lemmas.Bool.{and_parts, and_from, le-leb, leb-true}
@@ -16,7 +16,6 @@ use Rattle.terms.specs.Tests.{terms_parts, event_parts}
 use Rattle.rows.specs.Fits.{few, largest_entry, line_fits, entry_fits}
 use Rattle.rows.specs.Trade.{change}
 use Rattle.rows.specs.Adjustment.{entry, credit}
-use Rattle.rows.specs.declared.table.Line.{Line}
 use Rattle.rows.specs.declared.table.Place.{Place}
 use Rattle.rows.specs.declared.table.Place.TheVariants.{Free, Taken}
 use Rattle.rows.proofs.Ints.{mul_in, abs_add}

@@ -3,7 +3,6 @@ use Rattle.std.proofs.Common.{◌≡◌, ℕ, Bool, true, ◌&&◌, List, sym, a
 use Rattle.lookup.specs.Seek.{any_of}
 use Rattle.terms.specs.Family.{Answers}
 use Rattle.terms.specs.Adjust.{takes_in, next_series, adjusted}
-use Rattle.terms.specs.declared.code.Series.{Series}
 use Rattle.terms.specs.declared.event.Event.{Event}
 use Rattle.terms.specs.declared.adjust.Adjusted.{Adjusted}
 use Rattle.rows.specs.Adjustment.{bears, meets}

@@ -1,5 +1,5 @@
 -- Lines that an adjustment or a fixing has changed are within their limits.
-use Rattle.std.proofs.Common.{◌≡◌, ℕ, ◌≤◌, Bool, true, false, cond, ◌&&◌, ◌||◌, ltb, leb, List, [], ◌∷◌, map, refl}
+use Rattle.std.proofs.Common.{◌≡◌, ℕ, ◌≤◌, Bool, true, false, ◌&&◌, ltb, leb, List, [], ◌∷◌, map, refl}
 use Rattle.std.proofs.lemmas.Bool.{and_parts, and_from, or_parts, le-leb, both_ways, cond_both}
 use Rattle.lookup.specs.Seek.{any_of}
 use Rattle.sweep.specs.Sweep.{all_of}
@@ -18,7 +18,7 @@ use Rattle.rows.specs.Fixing.{fixes, fixed_terms, fixed_line, place_fixed}
 use Rattle.rows.specs.declared.table.Line.{Line}
 use Rattle.rows.specs.declared.table.Place.{Place}
 use Rattle.rows.specs.declared.table.Place.TheVariants.{Free, Taken}
-use Rattle.rows.proofs.Claimed.{dollars_in, terms_claim}
+use Rattle.rows.proofs.Claimed.{dollars_in}
 
 -- a test that does not fail where its first part passes
 second : (x y : Bool) → x ≡ true → x && y ≡ false → y ≡ false

@@ -1,5 +1,5 @@
 -- The dollars of a claim within Units are within Units.
-use Rattle.std.proofs.Common.{◌≡◌, ℕ, ◌-◌, ◌≤◌, true, ◌&&◌, leb, refl, arith}
+use Rattle.std.proofs.Common.{◌≡◌, ℕ, ◌-◌, ◌≤◌, true, ◌&&◌, leb, arith}
 use Rattle.std.proofs.lemmas.Bool.{and_parts, leb-true}
 use Rattle.terms.specs.Units.{largest_units, largest_price, largest_claim, is_number, is_units, is_lot_cash, is_price, is_day}
 use Rattle.terms.specs.Claims.{claim_fits, claim_dollars}

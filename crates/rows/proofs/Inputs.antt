@@ -1,5 +1,5 @@
 -- What it tells that the numbers of a call are within their units.
-use Rattle.std.proofs.Common.{◌≡◌, ℕ, ◌≤◌, Bool, true, false, not, ◌&&◌, ◌||◌, ltb, leb, sym, refl, ap, ◌∙◌, subst}
+use Rattle.std.proofs.Common.{◌≡◌, ℕ, ◌≤◌, true, false, not, ◌||◌, ltb, leb}
 use Rattle.std.proofs.lemmas.Bool.{and_parts, or_parts, leb-true, not-false}
 use Rattle.terms.specs.Units.{most_lots, largest_price, is_day, is_number, is_units, is_price, is_lots}
 use Rattle.terms.specs.Family.{Answers}

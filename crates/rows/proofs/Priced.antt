@@ -1,6 +1,6 @@
 -- A line that is found by a name that fits its family can be valued.
-use Rattle.std.proofs.Common.{◌≡◌, ℕ, ◌<◌, ◌≤◌, Bool, true, false, cond, not, ◌&&◌, ◌||◌, eqb, leb, List, length, get_or, is_some, Some, None, Option, sym, refl, ap, ◌∙◌, subst, arith}
-use Rattle.std.proofs.lemmas.Bool.{and_parts, and_from, or_parts, leb-true, le-leb, eqb-true, not-false, both_ways, ltb-false}
+use Rattle.std.proofs.Common.{◌≡◌, ℕ, ◌<◌, Bool, true, false, cond, not, ◌&&◌, eqb, leb, List, length, get_or, is_some, Some, None, Option, sym, refl, ap, ◌∙◌, arith}
+use Rattle.std.proofs.lemmas.Bool.{and_parts, and_from, le-leb, eqb-true, not-false, both_ways}
 use Rattle.lookup.specs.Seek.{sought, FirstAt}
 use Rattle.lookup.proofs.Seek.{sought_first}
 use Rattle.terms.specs.Units.{is_day, is_number, is_units, is_price, is_lot_cash, last_level, largest_price, largest_value}
@@ -8,7 +8,7 @@ use Rattle.terms.specs.Names.{is_prefix, right_of, right_number}
 use Rattle.terms.specs.Claims.{claim_fits}
 use Rattle.terms.specs.Terms.{series_fits, terms_fit, lot_of}
 use Rattle.terms.specs.Family.{Answers, Law, lot_fits, priced}
-use Rattle.terms.specs.Reading.{code_level, right_fits, name_fits, series_with, series_named}
+use Rattle.terms.specs.Reading.{code_level, right_fits, name_fits, series_with}
 use Rattle.terms.specs.declared.right.Right.{Right}
 use Rattle.terms.specs.declared.right.Right.TheVariants.{Without, Call, Put}
 use Rattle.terms.specs.declared.code.Name.{Name}
@@ -16,7 +16,7 @@ use Rattle.terms.specs.declared.code.Series.{Series}
 use Rattle.terms.specs.declared.terms.Terms.{Terms}
 use Rattle.sweep.specs.Sweep.{all_of}
 use Rattle.sweep.proofs.Every.{all_at}
-use Rattle.rows.specs.Rows.{same_prefix, same_series, holds, line_or}
+use Rattle.rows.specs.Rows.{same_prefix, holds, line_or}
 use Rattle.rows.specs.Fits.{line_fits}
 use Rattle.rows.specs.Names.{malformed, misfit, series_or, series_of, is_letter, is_standard}
 use Rattle.rows.specs.declared.table.Line.{Line}

@@ -1,6 +1,6 @@
 -- Lots and their price passing between two rows, by places and rows: what a trade does once both are
 -- found.
-use Rattle.std.specs.Prelude.{ℕ, Bool, ◌||◌, List, [], ◌∷◌, ℤ, pos, ◌*ℤ◌, neg_ℤ, slice_set}
+use Rattle.std.specs.Prelude.{ℕ, Bool, ◌||◌, List, [], ◌∷◌, pos, ◌*ℤ◌, neg_ℤ, slice_set}
 use Rattle.terms.specs.Units.{most_lots, most_equity}
 use Rattle.terms.specs.Terms.{lot_of}
 use Rattle.terms.specs.Family.{Answers}

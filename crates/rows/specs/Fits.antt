@@ -1,5 +1,5 @@
 -- What every call needs of a book to be safe: its numbers are within their limits.
-use Rattle.std.specs.Prelude.{ℕ, Bool, true, false, ◌&&◌, ℤ, nat_le, nat_lt, unsigned_abs}
+use Rattle.std.specs.Prelude.{ℕ, Bool, true, ◌&&◌, ℤ, nat_le, nat_lt, unsigned_abs}
 use Rattle.terms.specs.Units.{largest_value, most_lots, most_equity}
 use Rattle.terms.specs.Terms.{terms_fit}
 use Rattle.sweep.specs.Sweep.{all_of}

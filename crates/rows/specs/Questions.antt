@@ -1,5 +1,5 @@
 -- The questions, which alter nothing.
-use Rattle.std.specs.Prelude.{ℕ, Bool, not, ◌||◌, leb, List, [], ◌∷◌, ℤ}
+use Rattle.std.specs.Prelude.{ℕ, Bool, not, ◌||◌, List, [], ◌∷◌, ℤ}
 use Rattle.terms.specs.Units.{is_day, is_number}
 use Rattle.terms.specs.Family.{Answers}
 use Rattle.terms.specs.declared.code.Name.{Name}

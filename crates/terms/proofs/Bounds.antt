@@ -1,5 +1,5 @@
 -- Bounds of products, quotients and parts.
-use Rattle.std.proofs.Common.{◌≡◌, ℕ, ◌+◌, ◌*◌, ◌/◌, ◌≤◌, le_trans, mul-le-mul, arith}
+use Rattle.std.proofs.Common.{ℕ, ◌*◌, ◌/◌, ◌≤◌, le_trans, mul-le-mul}
 use native.Mathlib.Nat.{div-le_of_le-mul}
 
 -- a product of two bounded numbers, divided

@@ -1,5 +1,5 @@
 -- What an accepted call tells of its list of refusals.
-use Rattle.std.proofs.Common.{◌≡◌, ℕ, ◌≤◌, Bool, true, false, cond, List, [], ◌∷◌, refl, arith}
+use Rattle.std.proofs.Common.{◌≡◌, ℕ, ◌≤◌, Bool, true, false, cond, List, ◌∷◌, refl, arith}
 use Rattle.terms.specs.Refusals.{first}
 
 -- where no number was given, the first condition did not hold, and none after it

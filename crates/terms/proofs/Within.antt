@@ -1,17 +1,15 @@
 -- What an adjustment leaves is within Units.
-use Rattle.std.proofs.Common.{◌≡◌, ℕ, ◌*◌, ◌/◌, ◌≤◌, Bool, true, false, cond, not, ◌&&◌, ◌||◌, eqb, ltb, leb, refl, le_trans, arith}
-use Rattle.std.proofs.lemmas.Bool.{and_parts, and_from, or_parts, leb-true, le-leb, ltb-false, not-true, not-false, both_ways, eqb-false, cond_both}
+use Rattle.std.proofs.Common.{◌≡◌, ℕ, ◌*◌, ◌/◌, ◌≤◌, Bool, true, false, not, ◌&&◌, ◌||◌, eqb, ltb, leb, refl, le_trans, arith}
+use Rattle.std.proofs.lemmas.Bool.{and_parts, and_from, or_parts, le-leb, ltb-false, not-true, not-false, both_ways, eqb-false, cond_both}
 use Rattle.terms.specs.Units.{between, last_level, largest_units, largest_rate, largest_price, largest_number, is_day, is_number, is_units, is_price, is_lot_cash}
 use Rattle.terms.specs.Names.{no_prefix}
 use Rattle.terms.specs.Events.{absent, no_rights, whole_rights, no_successor, whole_successor, no_effect, event_outside, ill_formed}
 use Rattle.terms.specs.Claims.{claim_fits}
 use Rattle.terms.specs.Terms.{series_fits, terms_fit}
 use Rattle.terms.specs.Family.{Answers, Law}
-use Rattle.terms.specs.Adjust.{next_units, next_cash, next_claim, next_level, next_stock, next_series, next_terms, lot_misfits}
+use Rattle.terms.specs.Adjust.{next_claim, next_level, next_stock, next_terms, lot_misfits}
 use Rattle.terms.specs.declared.claim.Claim.{Claim}
 use Rattle.terms.specs.declared.claim.Claim.TheVariants.{Open}
-use Rattle.terms.specs.declared.event.Rights.{Rights}
-use Rattle.terms.specs.declared.event.Successor.{Successor}
 use Rattle.terms.specs.declared.event.Event.{Event}
 use Rattle.terms.specs.declared.terms.Terms.{Terms}
 use Rattle.terms.proofs.Bounds.{share_in}

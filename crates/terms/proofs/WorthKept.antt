@@ -1,13 +1,13 @@
 -- The worth of a lot is kept.
-use Rattle.std.proofs.Common.{◌≡◌, ℕ, ◌+◌, ◌-◌, ◌*◌, ◌/◌, ◌%◌, ◌<◌, ◌≤◌, not, ◌&&◌, leb, [], ◌∷◌, sym, ap, ◌∙◌, mod-lt, mul_assoc, mul_comm, add-mul, mul-le-mul_left, mul-add, arith}
+use Rattle.std.proofs.Common.{◌≡◌, ℕ, ◌+◌, ◌-◌, ◌*◌, ◌/◌, ◌%◌, ◌<◌, ◌≤◌, not, ◌&&◌, leb, [], ◌∷◌, sym, ap, ◌∙◌, mod-lt, mul_assoc, mul_comm, mul-le-mul_left, mul-add, arith}
 use native.Mathlib.Nat.{div-add-mod}
 use Rattle.std.proofs.lemmas.Bool.{and_parts, or_parts, leb-false, not-false}
 use Rattle.terms.specs.Units.{largest_price, largest_ratio, is_price, is_cash, is_ratio}
 use Rattle.terms.specs.Refusals.{first}
-use Rattle.terms.specs.Reference.{nearest, without_cash, reference, no_reference, reference_refusals}
+use Rattle.terms.specs.Reference.{without_cash, reference, no_reference, reference_refusals}
 use Rattle.terms.specs.Family.{Answers, Law}
-use Rattle.terms.specs.Adjust.{cash_amount, next_units, next_cash, booked_part, adjusted}
-use Rattle.terms.specs.Worth.{distance, worth_before, worth_after, rounding_bound, WorthKept}
+use Rattle.terms.specs.Adjust.{cash_amount, next_units, adjusted}
+use Rattle.terms.specs.Worth.{distance, rounding_bound, WorthKept}
 use Rattle.terms.specs.declared.event.Event.{Event}
 use Rattle.terms.specs.declared.terms.Terms.{Terms}
 use Rattle.terms.specs.Tests.{between_parts}

@@ -1,15 +1,14 @@
 -- Futures and options keep the law of a family.
-use Rattle.std.specs.Prelude.{◌≡◌, ℕ, ◌+◌, ◌-◌, ◌*◌, ◌≤◌, Bool, true, false, cond, codes, refl}
-use Rattle.std.proofs.Common.{zero-le, mul-le-mul, le_trans, zero-add, add-zero, arith, lit≤}
+use Rattle.std.specs.Prelude.{◌≡◌, ℕ, ◌*◌, ◌≤◌, true, false, codes, refl}
+use Rattle.std.proofs.Common.{zero-le, mul-le-mul, zero-add, add-zero, arith}
 use Rattle.std.proofs.lemmas.Bool.{eqb-true, leb-true, both_ways}
-use Rattle.terms.specs.Units.{largest_units, largest_price, largest_value, is_claim}
-use Rattle.terms.specs.Family.{Answers, Law, priced}
+use Rattle.terms.specs.Units.{largest_units, largest_price, largest_value}
+use Rattle.terms.specs.Family.{Law}
 use Rattle.terms.specs.Futures.{futures, futures_fits}
 use Rattle.terms.specs.Options.{options, options_fits, exercised}
 use Rattle.terms.specs.declared.right.Right.{Right}
 use Rattle.terms.specs.declared.right.Right.TheVariants.{Without, Call, Put}
-use Rattle.terms.specs.declared.lot.Lot.{Lot}
-use Rattle.terms.specs.Tests.{between_parts, Priced, priced_parts}
+use Rattle.terms.specs.Tests.{between_parts, priced_parts}
 use Rattle.terms.specs.LettersLemmas.{lettered, ten, reads, writes, differ}
 
 -- a price times share units

@@ -1,10 +1,9 @@
 -- How a family reads a name.
-use Rattle.std.specs.Prelude.{ℕ, Bool, true, false, cond, not, List, [], ◌∷◌, is_some, Some, None, Option}
+use Rattle.std.specs.Prelude.{ℕ, Bool, false, cond, not, List, [], ◌∷◌, is_some, Some, None, Option}
 use Rattle.terms.specs.Units.{is_day}
 use Rattle.terms.specs.Names.{is_prefix, right_of}
 use Rattle.terms.specs.Family.{Answers}
 use Rattle.terms.specs.declared.right.Right.{Right}
-use Rattle.terms.specs.declared.right.Right.TheVariants.{Without, Call, Put}
 use Rattle.terms.specs.declared.code.Code.{Code}
 use Rattle.terms.specs.declared.code.Name.{Name}
 use Rattle.terms.specs.declared.code.Series.{Series}

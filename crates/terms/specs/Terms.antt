@@ -1,5 +1,5 @@
 -- The terms of a line.
-use Rattle.std.specs.Prelude.{ℕ, Bool, ◌&&◌, nat_le}
+use Rattle.std.specs.Prelude.{Bool, ◌&&◌, nat_le}
 use Rattle.terms.specs.Units.{last_level, largest_price, is_day, is_number, is_units, is_lot_cash}
 use Rattle.terms.specs.Claims.{claim_fits}
 use Rattle.terms.specs.declared.code.Series.{Series}

@@ -1,11 +1,11 @@
 -- What a test of the Units definitions tells, as facts about numbers.
-use Rattle.std.specs.Prelude.{◌≡◌, ℕ, ◌≤◌, Bool, true, false, not, ◌&&◌, ◌||◌, nat_le, nat_lt}
+use Rattle.std.specs.Prelude.{◌≡◌, ℕ, ◌≤◌, true, false, not, ◌&&◌, ◌||◌, nat_le, nat_lt}
 use Rattle.std.proofs.lemmas.Bool.{and_parts, or_parts, leb-true, not-false}
 use Rattle.terms.specs.Units.{between, last_level, largest_units, largest_lot_cash, largest_price, largest_cash, largest_ratio, largest_rate, is_day, is_number, is_units, is_lot_cash, is_cash, is_ratio, is_rate}
 use Rattle.terms.specs.Events.{event_outside}
 use Rattle.terms.specs.Claims.{claim_fits}
 use Rattle.terms.specs.Terms.{series_fits, terms_fit}
-use Rattle.terms.specs.Family.{Answers, priced, lot_fits}
+use Rattle.terms.specs.Family.{Answers, priced}
 use Rattle.terms.specs.declared.lot.Lot.{Lot}
 use Rattle.terms.specs.declared.terms.Terms.{Terms}
 use Rattle.terms.specs.declared.event.Event.{Event}

@@ -1,4 +1,4 @@
-use Rattle.std.proofs.Common.{◌≡◌, ◌<◌, true, length, get_or, set, ap, ◌∙◌, arith}
+use Rattle.std.proofs.Common.{set, ap, ◌∙◌}
 use Rattle.sweep.proofs.Every.{all_within}
 use Rattle.sweep.proofs.Loops.{half_at, half_more, half_all}
 use Rattle.sweep.proofs.change_all.Goals as goal

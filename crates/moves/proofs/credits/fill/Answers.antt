@@ -1,4 +1,4 @@
-use Rattle.std.proofs.Common.{◌≡◌, set, refl, ap, ◌∙◌, arith}
+use Rattle.std.proofs.Common.{set, refl, ap, ◌∙◌}
 use Rattle.sweep.proofs.Every.{all_at}
 use Rattle.rows.specs.Fits.{line_fits}
 use Rattle.rows.specs.Adjustment.{entry}

@@ -1,5 +1,5 @@
-use Rattle.std.proofs.Common.{◌≡◌, ℕ, ◌+◌, ◌≤◌, ℤ, pos, ◌+ℤ◌, ◌-ℤ◌, ◌*ℤ◌, nat_abs, refl, arith, w32, w64, SFits, to_z, rules}
-use Rattle.std.proofs.lemmas.Int.{to_z-of_z, to_z_pos, ints}
+use Rattle.std.proofs.Common.{◌≡◌, ◌≤◌, pos, ◌+ℤ◌, ◌*ℤ◌, nat_abs, arith, w32, w64, SFits, to_z}
+use Rattle.std.proofs.lemmas.Int.{to_z-of_z, ints}
 use Rattle.rows.specs.Trade.{change}
 use Rattle.rows.proofs.Ints.{product_fits, in64, abs_add, change_in}
 use Rattle.rows.proofs.account.moved.Goals as goal

@@ -1,8 +1,8 @@
-use Rattle.std.proofs.Common.{◌≡◌, ◌≤◌, true, List, get_or, sym, refl, ap, ◌∙◌, subst, arith}
+use Rattle.std.proofs.Common.{◌≡◌, true, List, get_or, sym, refl, ap, ◌∙◌, subst, arith}
 use Rattle.std.proofs.lemmas.Bool.{le-leb}
 use Rattle.sweep.specs.Sweep.{all_of}
 use Rattle.sweep.proofs.Every.{all_set}
-use Rattle.terms.specs.Units.{largest_claim, largest_value, is_claim}
+use Rattle.terms.specs.Units.{largest_claim, is_claim}
 use Rattle.terms.specs.Claims.{claim_fits}
 use Rattle.rows.specs.Fits.{line_fits, row_fits}
 use Rattle.rows.specs.Trade.{change}

@@ -1,4 +1,4 @@
-use Rattle.std.proofs.Common.{◌≡◌, ◌≤◌, true, false, sym, ap, ◌∙◌, subst, arith}
+use Rattle.std.proofs.Common.{◌≡◌, ◌≤◌, true, sym, ap, ◌∙◌, subst, arith}
 use Rattle.terms.specs.Units.{largest_value}
 use Rattle.terms.specs.Terms.{terms_fit, lot_of}
 use Rattle.terms.specs.Family.{priced}

@@ -1,7 +1,6 @@
 use Rattle.std.proofs.Common.{◌≡◌, true, List, sym, subst}
 use Rattle.sweep.specs.Sweep.{all_of}
 use Rattle.rows.specs.Fits.{line_fits, row_fits}
-use Rattle.rows.specs.Adjustment.{credit_past}
 use Rattle.rows.specs.declared.table.Account.{Account}
 use Rattle.rows.specs.declared.table.Place.{Place}
 use Rattle.rows.proofs.Sound.{credited_fit}
