@@ -14,17 +14,15 @@ mod tests;
 use command::answer;
 use fault::Fault;
 use std::env;
+use std::process::ExitCode;
 
-/// The program has said on standard error why it failed.
-#[derive(Debug, Drop)]
-pub struct Failed;
-
-fn main(rt: HostRuntime) -> Result<(), Failed> {
+// A failure is said on standard error, in words, and by the exit status alone.
+fn main(rt: HostRuntime) -> ExitCode {
     match run(&rt) {
-        Ok(()) => Ok(()),
+        Ok(()) => ExitCode::SUCCESS,
         Err(fault) => {
             let _ = eprintln!(rt; "sorchuqe: {fault}");
-            Err(Failed)
+            ExitCode::FAILURE
         }
     }
 }
