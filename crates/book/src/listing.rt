@@ -45,7 +45,7 @@ impl<F: Family> Book<F> {
         if find(&self.table.lines, &Some(series_of::<F>(&name))).is_some() {
             return Err(Refusal::NameTaken);
         }
-        if any_clash(&self.table.lines, name.code.prefix, stock) {
+        if any_clash(&self.table.lines, &name.code.prefix, stock) {
             return Err(Refusal::PrefixConflict);
         }
         let Some(place) = find(&self.table.lines, &None) else {

@@ -10,7 +10,7 @@ ghost use Rattle.rows.specs.Calls.{settled};
 
 use crate::book::Book;
 use lookup::find;
-use rows::gain::Gain;
+use rows::gains::{any_gains_too_much, gain_all};
 use rows::names::{is_malformed, is_misfit, series_of};
 use rows::rows::line_at;
 use rows::table::{Line, Place};
@@ -60,15 +60,10 @@ impl<F: Family> Book<F> {
     {
         let line = line_at(&self.table.lines, place);
         let value = F::mark_value(&line.terms.lot(), price);
-        let gain = Gain {
-            place,
-            from: line.carry,
-            to: value,
-        };
-        if gain.passes_a_limit(&self.table.accounts) {
+        if any_gains_too_much(&self.table.accounts, place, line.carry, value) {
             return Err(Refusal::EquityPastLimit);
         }
-        gain.give(&mut self.table.accounts);
+        gain_all(&mut self.table.accounts, place, line.carry, value);
         self.table.lines[place] = Place::Taken(Line {
             terms: line.terms,
             carry: value,

@@ -3,6 +3,7 @@ ghost use Rattle.std.specs.Prelude.{◌≡◌, ◌<◌, ◌≤◌, ◌||◌, pos
 ghost use Rattle.rows.specs.Rows.{lots_in};
 ghost use Rattle.rows.specs.Fits.{past};
 ghost use Rattle.rows.specs.Trade.{change, traded};
+ghost use Rattle.rows.specs.Mark.{gained, gains_past};
 ghost use Rattle.rows.specs.Held.{Held};
 
 use crate::table::Account;
@@ -54,6 +55,26 @@ impl Account {
         ensures { result ≡ self.now.equity +ℤ (lots_in j self.now *ℤ change from to) }
     {
         moved(self.equity, self.lots[j], from, to)
+    }
+
+    /// The row after each lot in a place has gained.
+    pub fn gain(&self, j: usize, from: u64, to: u64) -> Account
+        requires { (j < 48) × (Held self.now j from to) }
+        ensures { result ≡ gained j (change from to) self.now }
+    {
+        Account {
+            number: self.number,
+            equity: self.gaining(j, from, to),
+            lots: self.lots,
+        }
+    }
+
+    /// Whether the equity would then pass its limit.
+    pub fn gains_too_much(&self, j: usize, from: u64, to: u64) -> bool
+        requires { (j < 48) × (Held self.now j from to) }
+        ensures { result ≡ gains_past j (change from to) self.now }
+    {
+        is_too_much(self.gaining(j, from, to))
     }
 
     /// The row after a purchase at `from` in a line that is carried at `to`.

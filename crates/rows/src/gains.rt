@@ -1,13 +1,14 @@
 //! What a gain makes of an account.
-ghost use Rattle.std.specs.Prelude.{◌≡◌, true, map};
+ghost use Rattle.std.specs.Prelude.{◌≡◌, ℕ, ◌<◌, true, map, length, slice_index_or};
 ghost use Rattle.lookup.specs.Seek.{any_of};
 ghost use Rattle.sweep.specs.Sweep.{all_of};
+ghost use Rattle.rows.specs.Rows.{no_account};
 ghost use Rattle.rows.specs.Fits.{row_fits};
+ghost use Rattle.rows.specs.Held.{Held};
 ghost use Rattle.rows.specs.Trade.{change};
 ghost use Rattle.rows.specs.Mark.{gained, gains_past};
 ghost use Rattle.rows.specs.Expiry.{closed};
 
-use crate::account::is_too_much;
 use crate::gain::Gain;
 use crate::table::Account;
 use sweep::{Change, Test, any, change_all};
@@ -21,7 +22,7 @@ impl Test for Gain {
     ghost says = { λ s r. gains_past s.place (change s.from s.to) r };
 
     fn test(&self, account: &Account) -> bool {
-        is_too_much(account.gaining(self.place, self.from, self.to))
+        account.gains_too_much(self.place, self.from, self.to)
     }
 }
 
@@ -79,5 +80,28 @@ impl Gain {
         ensures { accounts.new ≡ map (closed self.now.place (change self.now.from self.now.to)) accounts.old }
     {
         change_all(accounts, &Closing { gain: *self });
+    }
+}
+
+/// Whether some account's equity would pass its limit, were each lot in a place to gain.
+pub fn any_gains_too_much(rows: &[Account], j: usize, from: u64, to: u64) -> bool
+    requires { (j < 48) × (((i : ℕ) → i < length rows.now → Held (slice_index_or rows.now i no_account) j from to)) }
+    ensures { result ≡ any_of (gains_past j (change from to)) rows.now }
+{
+    for i in 0..rows.len() {
+        if rows[i].gains_too_much(j, from, to) {
+            return true;
+        }
+    }
+    false
+}
+
+/// Each lot in a place gains.
+pub fn gain_all(rows: &mut [Account], j: usize, from: u64, to: u64)
+    requires { (j < 48) × (((i : ℕ) → i < length rows.old → Held (slice_index_or rows.old i no_account) j from to)) }
+    ensures { rows.new ≡ map (gained j (change from to)) rows.old }
+{
+    for k in 0..rows.len() {
+        rows[k] = rows[k].gain(j, from, to);
     }
 }

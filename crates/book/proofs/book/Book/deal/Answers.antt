@@ -1,9 +1,8 @@
-use Rattle.std.proofs.Common.{◌≤◌, get_or, set, pos, ◌*ℤ◌, neg_ℤ, sym, ◌∙◌, arith}
+use Rattle.std.proofs.Common.{◌≤◌, get_or, set, sym, ◌∙◌, arith}
 use Rattle.std.proofs.lemmas.Bool.{or_parts}
 use Rattle.terms.specs.Units.{largest_value, most_lots, most_equity}
 use Rattle.rows.specs.Rows.{lots_in}
 use Rattle.rows.specs.Fits.{past, row_fits}
-use Rattle.rows.specs.Trade.{change}
 use Rattle.rows.specs.declared.table.Place.TheVariants.{Free}
 use Rattle.rows.proofs.Priced.{lot_priced}
 use Rattle.sweep.proofs.Every.{all_set}
@@ -41,9 +40,9 @@ invariant_of-self g c =
     let much = or_parts (past most_equity c.buys-bought.result.equity) (past most_equity c.sells-sold.result.equity) (sym c.either_has_too_much.ensures ∙ c.if-either_has_too_much.false) in record {
       lines_fit = c.args.self.now.lines_fit;
       rows_fit = all_set row_fits (set t.accounts c.args.b c.buys-bought.result) c.args.s c.sells-sold.result
-          (traded_fit t.accounts c.args.s c.sells-sold.result c.args.place (neg_ℤ (pos c.args.lots)) (pos c.args.lots *ℤ change c.line_at-line.result.carry c.trade_value-value.result) c.sells-sold.ensures c.args.self.now.rows_fit many.1 much.1)
+          (traded_fit t.accounts c.args.s c.sells-sold.result c.args.place _ _ c.sells-sold.ensures c.args.self.now.rows_fit many.1 much.1)
           (all_set row_fits t.accounts c.args.b c.buys-bought.result
-          (traded_fit t.accounts c.args.b c.buys-bought.result c.args.place (pos c.args.lots) (pos c.args.lots *ℤ change c.trade_value-value.result c.line_at-line.result.carry) c.buys-bought.ensures c.args.self.now.rows_fit many.0 much.0)
+          (traded_fit t.accounts c.args.b c.buys-bought.result c.args.place _ _ c.buys-bought.ensures c.args.self.now.rows_fit many.0 much.0)
           c.args.self.now.rows_fit);
       count_in = c.args.self.now.count_in;
     }
