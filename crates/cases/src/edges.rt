@@ -278,28 +278,22 @@ fn largest_values(rt: HostRuntime) -> Result<(), Fail> {
         cash: 0,
     };
     assert_eq!(rt;
-        <Futures as Family>::trade_value(&future, 1_000_000),
+        Futures::trade_value(&future, 1_000_000),
         400_000_000_000_000
     );
     assert_eq!(rt;
-        <Futures as Family>::mark_value(&future, 1_000_000),
+        Futures::mark_value(&future, 1_000_000),
         400_000_000_000_000
     );
     assert_eq!(rt;
-        <Futures as Family>::final_value(&future, 1_000_000, 400_000_000),
+        Futures::final_value(&future, 1_000_000, 400_000_000),
         800_000_000_000_000
     );
+    assert_eq!(rt; Options::trade_value(&put, 1_000_000), 400_000_000_000_000);
     assert_eq!(rt;
-        <Options as Family>::trade_value(&put, 1_000_000),
-        400_000_000_000_000
-    );
-    assert_eq!(rt;
-        <Options as Family>::final_value(&call, 1_000_000, 400_000_000),
+        Options::final_value(&call, 1_000_000, 400_000_000),
         899_999_999_999_999
     );
-    assert_eq!(rt;
-        <Options as Family>::final_value(&put, 1, 0),
-        399_999_999_999_999
-    );
+    assert_eq!(rt; Options::final_value(&put, 1, 0), 399_999_999_999_999);
     Ok(())
 }

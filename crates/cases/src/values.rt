@@ -2,7 +2,9 @@
 use std::test::*;
 use terms::family::Family;
 use terms::figures::worked_figures;
+use terms::futures::Futures;
 use terms::lot::Lot;
+use terms::options::Options;
 use terms::right::Right;
 use terms::units;
 
@@ -20,17 +22,11 @@ fn plain_units(rt: HostRuntime) -> Result<(), Fail> {
 #[test]
 fn families(rt: HostRuntime) -> Result<(), Fail> {
     assert_eq!(rt;
-        (
-            <terms::futures::Futures as Family>::lot_limit(),
-            <terms::futures::Futures as Family>::standard_letter()
-        ),
+        (Futures::lot_limit(), Futures::standard_letter()),
         (400_000_000, 'F')
     );
     assert_eq!(rt;
-        (
-            <terms::options::Options as Family>::lot_limit(),
-            <terms::options::Options as Family>::standard_letter()
-        ),
+        (Options::lot_limit(), Options::standard_letter()),
         (200_000_000, 'O')
     );
     assert_eq!(rt; worked_figures(), 12);
@@ -47,18 +43,9 @@ fn futures(rt: HostRuntime) -> Result<(), Fail> {
         strike_lot: 20_000_000,
         cash: 0,
     };
-    assert_eq!(rt;
-        <terms::futures::Futures as Family>::trade_value(&lot, 1_900),
-        38_000_000_000
-    );
-    assert_eq!(rt;
-        <terms::futures::Futures as Family>::mark_value(&lot, 1_900),
-        38_000_000_000
-    );
-    assert_eq!(rt;
-        <terms::futures::Futures as Family>::final_value(&lot, 2_000, 400),
-        40_400_000_000
-    );
+    assert_eq!(rt; Futures::trade_value(&lot, 1_900), 38_000_000_000);
+    assert_eq!(rt; Futures::mark_value(&lot, 1_900), 38_000_000_000);
+    assert_eq!(rt; Futures::final_value(&lot, 2_000, 400), 40_400_000_000);
     Ok(())
 }
 
@@ -79,29 +66,11 @@ fn options(rt: HostRuntime) -> Result<(), Fail> {
         strike_lot: 20_000_000,
         cash: 2_000,
     };
-    assert_eq!(rt;
-        <terms::options::Options as Family>::trade_value(&call, 300),
-        6_000_000_000
-    );
-    assert_eq!(rt;
-        <terms::options::Options as Family>::mark_value(&call, 300),
-        0
-    );
-    assert_eq!(rt;
-        <terms::options::Options as Family>::final_value(&call, 5_200, 0),
-        16_400_000_000
-    );
-    assert_eq!(rt;
-        <terms::options::Options as Family>::final_value(&put, 5_200, 0),
-        0
-    );
-    assert_eq!(rt;
-        <terms::options::Options as Family>::final_value(&put, 4_000, 100),
-        9_900_000_000
-    );
-    assert_eq!(rt;
-        <terms::options::Options as Family>::final_value(&call, 4_000, 100),
-        0
-    );
+    assert_eq!(rt; Options::trade_value(&call, 300), 6_000_000_000);
+    assert_eq!(rt; Options::mark_value(&call, 300), 0);
+    assert_eq!(rt; Options::final_value(&call, 5_200, 0), 16_400_000_000);
+    assert_eq!(rt; Options::final_value(&put, 5_200, 0), 0);
+    assert_eq!(rt; Options::final_value(&put, 4_000, 100), 9_900_000_000);
+    assert_eq!(rt; Options::final_value(&call, 4_000, 100), 0);
     Ok(())
 }

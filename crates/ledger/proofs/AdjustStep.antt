@@ -20,10 +20,11 @@ use Rattle.ledger.proofs.Sums.{total_map, total_perm, perm_map, perm_from}
 use Rattle.ledger.proofs.Found.{accepted}
 use Rattle.ledger.proofs.Views.{view_ext}
 use Rattle.ledger.proofs.Mapped.{view_where, worth_where, free_before_map}
+use Rattle.ledger.proofs.Listed.{nameless_map}
 use Rattle.ledger.proofs.Well.{Well, Holds}
 use Rattle.ledger.proofs.Gains.{Gains, open_gained, row_gained, equity_gained, total_gained, well_gained}
 use Rattle.ledger.proofs.Credits.{spread_none, credit_is, credits_are, spread_booked}
-use Rattle.ledger.proofs.Renamed.{adjusts_places, names_adjusted, stocks_adjusted}
+use Rattle.ledger.proofs.Renamed.{adjusts_places, unnamed_stays, names_adjusted, stocks_adjusted}
 
 credit_gains : (ds : List ℕ) → Gains (credited ds) (λ r. credit r.lots ds)
 credit_gains ds =
@@ -37,7 +38,7 @@ credit_gains ds =
           (credit_is r.lots ds ∙ spread_none (λ j. lots_in j r) e 0 ds));
     }
 
-module _ (a : Answers) (t : Table) (g : Ledger) (day : ℕ) (event : Event) (h : Holds t g) (ok : first (adjustment_refusals a t day event) ≡ 0) where
+module _ (a : Answers) (t : Table) (g : Ledger) (day : ℕ) (event : Event) (h : Holds a t g) (ok : first (adjustment_refusals a t day event) ≡ 0) where
   abbrev taken : Line → Bool
   taken l = takes_in day event l.terms
 
@@ -88,10 +89,11 @@ module _ (a : Answers) (t : Table) (g : Ledger) (day : ℕ) (event : Event) (h :
         equity = total_gained (credit_gains ds) old none_credited ∙ h.balanced.equity;
       }
 
-  adjustment_well : Well (adjustment_table a t day event)
+  adjustment_well : Well a (adjustment_table a t day event)
   adjustment_well =
       let places_same = length-map t.lines (place_adjusted a day event) in
       well_gained (credit_gains ds) t h.well (map (place_adjusted a day event) t.lines) day (places_same ∙ h.well.lines)
+      (nameless_map (adjusts_places a day event) (unnamed_stays a day event) a t.lines h.well.nameless)
       (record {
         names =
             names_adjusted a day event t.lines h.well.orderly.stocks h.well.orderly.names
@@ -104,5 +106,5 @@ module _ (a : Answers) (t : Table) (g : Ledger) (day : ℕ) (event : Event) (h :
             ∙ h.well.orderly.free j (free_before_map (adjusts_places a day event) t.lines j e) i;
       })
 
-  pub adjustment_holds : Holds (adjustment_table a t day event) (post a g (Adjustment day event))
+  pub adjustment_holds : Holds a (adjustment_table a t day event) (post a g (Adjustment day event))
   adjustment_holds = record { well = adjustment_well; balanced = adjustment_balanced; agrees = adjustment_agrees }

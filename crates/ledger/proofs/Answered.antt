@@ -2,7 +2,7 @@
 use Rattle.std.proofs.Common.{◌≡◌, ℕ, zero, suc, ◌+◌, ◌≤◌, Bool, true, false, not, ◌||◌, eqb, List, [], ◌∷◌, get_or, take, ℤ, pos, ◌+ℤ◌, Some, None, Option, sym, refl, ap, ◌∙◌, subst, ap₂, ⊎_elim, arith}
 use Rattle.std.proofs.lemmas.Bool.{or_parts, both_ways, eq-eqb, ne_eqb, cond-true, cond-false, cases_Bool, not_from_false}
 use Rattle.lookup.specs.Seek.{any_of}
-use Rattle.terms.specs.Family.{Answers, Law}
+use Rattle.terms.specs.Family.{Answers}
 use Rattle.terms.specs.declared.code.Series.{Series}
 use Rattle.rows.specs.Rows.{places, same_series, holds, numbered, lots_in, no_account, found_line, found_account, missing, place, row, line_at, account_at}
 use Rattle.rows.specs.Calls.{empty, run}
@@ -75,7 +75,7 @@ module _ (t : Table) (n : ℕ) (above : 1 ≤ n) (differ : NumbersDiffer (number
       (λ i l ne. cond-false (eqb (account_at t i).number n) (f (account_at t i)) (pos 0) (ne_eqb (account_at t i).number n (other_number i ne)))
       ∙ cond-true (eqb (account_at t (row t n)).number n) (f (account_at t (row t n))) (pos 0) (eq-eqb (account_at t (row t n)).number n o.number)
 
-module _ (t : Table) (g : Ledger) (h : Holds t g) where
+module _ {a : Answers} (t : Table) (g : Ledger) (h : Holds a t g) where
   -- the ledger's entry of a name is the line's
   entry_is : (k : Series) → missing (found_line t k) ≡ false → entry_named k g.lines ≡ Some (entry t.accounts (place t k) (line_at t (place t k)))
   entry_is k m =
@@ -117,5 +117,9 @@ module _ (t : Table) (g : Ledger) (h : Holds t g) where
   pub answers_hold : Answered t g
   answers_hold = record { terms = λ k. terms_by k (missing (found_line t k)) refl; lots = lots_by; equity = equity_by; accounts = accounts_by }
 
-pub answered : (a : Answers) → Law a → (cs : List Call) → Answered (run a empty cs) (ledger_of a cs)
-answered a law cs = answers_hold (run a empty cs) (ledger_of a cs) (holds_after a law cs)
+pub answered : (a : Answers) (cs : List Call) → Answered (run a empty cs) (ledger_of a cs)
+answered a cs = answers_hold (run a empty cs) (ledger_of a cs) (holds_after a cs)
+
+-- no two accounts have one number
+pub numbers_differ : (a : Answers) (cs : List Call) → NumbersDiffer (numbers (run a empty cs).accounts)
+numbers_differ a cs = (holds_after a cs).well.numbers

@@ -24,6 +24,8 @@ use Rattle.ledger.proofs.Found.{Live, accepted, live}
 use Rattle.ledger.proofs.Apart.{names_remove, stocks_remove}
 use Rattle.ledger.proofs.Without.{perm_without, total_without, view_without}
 use Rattle.ledger.proofs.Gains.{Gains, no_gain, open_gained, row_gained, equity_gained, total_gained, well_gained, by_lots, none_in_all}
+use Rattle.ledger.proofs.Views.{not_both}
+use Rattle.ledger.proofs.Listed.{nameless_set}
 use Rattle.ledger.proofs.Well.{Well, Holds, pick}
 
 -- the default, written anywhere
@@ -44,7 +46,7 @@ expiry_gains j gain =
           (ap (set r.lots j) (sym (e j)) ∙ set-get_or r.lots j (pos 0));
     }
 
-module _ (a : Answers) (t : Table) (g : Ledger) (day : ℕ) (name : Name) (price close : ℕ) (h : Holds t g) (ok : first (expiry_refusals a t day name price close) ≡ 0) where
+module _ (a : Answers) (t : Table) (g : Ledger) (day : ℕ) (name : Name) (price close : ℕ) (h : Holds a t g) (ok : first (expiry_refusals a t day name price close) ≡ 0) where
   abbrev k : Series
   k = series_of a name
 
@@ -136,14 +138,15 @@ module _ (a : Answers) (t : Table) (g : Ledger) (day : ℕ) (name : Name) (price
       ap (lots_in j) (row_at i)
       ∙ (lots_there j ne (account_at t i) ∙ h.well.orderly.free j (sym (get_or-set_other t.lines p j Free Free ne) ∙ e) i)
 
-  expiry_well : Well (expiry_table a t day name price close)
+  expiry_well : Well a (expiry_table a t day name price close)
   expiry_well =
       well_gained (expiry_gains p d) t h.well (set t.lines p Free) day (length-set t.lines p Free ∙ h.well.lines)
+      (nameless_set a t.lines p Free (λ m q e. not_both m q) h.well.nameless)
       (record {
         names = names_remove t.lines p h.well.orderly.names;
         stocks = stocks_remove t.lines p h.well.orderly.stocks;
         free = λ j. free_at j (cases_eq j p);
       })
 
-  pub expiry_holds : Holds (expiry_table a t day name price close) (post a g (Expiry day name price close))
+  pub expiry_holds : Holds a (expiry_table a t day name price close) (post a g (Expiry day name price close))
   expiry_holds = record { well = expiry_well; balanced = expiry_balanced; agrees = expiry_agrees }

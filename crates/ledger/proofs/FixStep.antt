@@ -10,9 +10,10 @@ use Rattle.ledger.specs.Ledger.{Ledger, where_so, is_due, fixed, post}
 use Rattle.ledger.specs.Agreement.{Agrees, view}
 use Rattle.ledger.proofs.Sums.{perm_map, perm_from}
 use Rattle.ledger.proofs.Mapped.{Changes, cond_kept, if_passes, view_where, worth_where, free_before_map, names_kept, stocks_kept}
+use Rattle.ledger.proofs.Listed.{nameless_map}
 use Rattle.ledger.proofs.Well.{Well, Holds}
 
-module _ (a : Answers) (t : Table) (g : Ledger) (day stock deadline close : ℕ) (h : Holds t g) where
+module _ (a : Answers) (t : Table) (g : Ledger) (day stock deadline close : ℕ) (h : Holds a t g) where
   abbrev due : Line → Bool
   due l = fixes stock deadline l.terms
 
@@ -32,7 +33,7 @@ module _ (a : Answers) (t : Table) (g : Ledger) (day stock deadline close : ℕ)
             ∙ ap (λ (z : ℤ). g.sums n +ℤ z) (sym (worth_where due (fixed_line close) n (λ l. refl) g.lines));
       }
 
-  fixing_well : Well (fixing_table t day stock deadline close)
+  fixing_well : Well a (fixing_table t day stock deadline close)
   fixing_well =
       let series : (l : Line) → (if_passes due (fixed_line close) l).terms.series ≡ l.terms.series =
       λ l. cond_kept (λ (x : Line). x.terms.series) (due l) (fixed_line close l) l refl in
@@ -49,10 +50,11 @@ module _ (a : Answers) (t : Table) (g : Ledger) (day stock deadline close : ℕ)
                   (λ l. cond_kept (λ (x : Line). x.terms.stock) (due l) (fixed_line close l) l refl) h.well.orderly.stocks;
               free = λ j e. h.well.orderly.free j (free_before_map changes t.lines j e);
             };
+        nameless = nameless_map changes (λ l e. series l ∙ e) a t.lines h.well.nameless;
         numbers = h.well.numbers;
       }
 
-  pub fixing_holds : Holds (fixing_table t day stock deadline close) (post a g (Fixing day stock deadline close))
+  pub fixing_holds : Holds a (fixing_table t day stock deadline close) (post a g (Fixing day stock deadline close))
   fixing_holds =
       record {
         well = fixing_well;

@@ -1,6 +1,7 @@
 -- Rows after every account has gained by its lots.
 use Rattle.std.proofs.Common.{◌≡◌, ℕ, cond, eqb, List, [], ◌∷◌, map, length, get_or, take, ℤ, pos, ◌+ℤ◌, ◌*ℤ◌, sym, refl, ap, ◌∙◌, subst, ap₂}
 use Rattle.std.proofs.lemmas.List.{length-map}
+use Rattle.terms.specs.Family.{Answers}
 use Rattle.rows.specs.Rows.{places, lots_in, no_account, account_at}
 use Rattle.rows.specs.Opening.{new_account}
 use Rattle.rows.specs.declared.table.Account.{Account}
@@ -11,6 +12,7 @@ use Rattle.ledger.specs.Agreement.{Orderly, NumbersDiffer, if_number, lots_of, e
 use Rattle.ledger.proofs.Ring.{first_alone, zero_mulℤ, if_plus, if_times}
 use Rattle.ledger.proofs.Sums.{total_ext, total_add, total_mul, total_map}
 use Rattle.ledger.proofs.At.{map_at}
+use Rattle.ledger.proofs.Listed.{Nameless}
 use Rattle.ledger.proofs.Well.{Well, no_lots, same_open}
 
 -- an account keeps its number and its places, and one that has no lots is as it was
@@ -46,8 +48,8 @@ module _ {F : Account → Account} {gain : Account → ℤ} (gains : Gains F gai
       ∙ (total_add (λ r. r.equity) gain rs ∙ first_alone (total (λ r. r.equity) rs) (total gain rs) _ refl none))
 
   -- a table with such rows and other lines
-  pub well_gained : (t : Table) → Well t → (ls : List Place) (day : ℕ) → length ls ≡ places → Orderly (record { lines = ls; accounts = map F t.accounts; count = t.count; day = day }) → Well (record { lines = ls; accounts = map F t.accounts; count = t.count; day = day })
-  well_gained t w ls day lines orderly =
+  pub well_gained : {a : Answers} (t : Table) → Well a t → (ls : List Place) (day : ℕ) → length ls ≡ places → Nameless a ls → Orderly (record { lines = ls; accounts = map F t.accounts; count = t.count; day = day }) → Well a (record { lines = ls; accounts = map F t.accounts; count = t.count; day = day })
+  well_gained t w ls day lines nameless orderly =
       record {
         lines = lines;
         accounts = length-map t.accounts F ∙ w.accounts;
@@ -56,6 +58,7 @@ module _ {F : Account → Account} {gain : Account → ℤ} (gains : Gains F gai
         spare = λ i c b.
             row_gained t.accounts i ∙ (ap F (w.spare i c b) ∙ gains.unheld (new_account 0) (λ j. no_lots j 0));
         orderly = orderly;
+        nameless = nameless;
         numbers = subst (λ (ns : List ℕ). NumbersDiffer ns) (sym (numbers_gained t.accounts)) w.numbers;
       }
 

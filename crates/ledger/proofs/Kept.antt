@@ -12,14 +12,14 @@ use Rattle.ledger.proofs.WorthsKept.{worths_kept}
 
 pub promises : (a : Answers) → Law a → (cs : List Call) (t : Table) → t ≡ run a empty cs → Promises a cs t
 promises a law cs t e =
-    let s = stands a law cs in
+    let s = stands a cs in
     subst (λ (x : Table). Promises a cs x) (sym e)
     (record {
       balanced = s.balanced;
       agrees = s.agrees;
-      answered = answered a law cs;
-      asked = asked a law cs;
+      answered = answered a cs;
+      asked = asked a cs;
       orderly = s.orderly;
-      rows = rows_kept a law cs;
+      rows = rows_kept a cs;
       worth = worths_kept a law empty cs;
     })

@@ -6,6 +6,7 @@ pub mod Found
 pub mod Views
 pub mod Apart
 pub mod Mapped
+pub mod Listed
 pub mod Without
 pub mod Well
 pub mod Gains

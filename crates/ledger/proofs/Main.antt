@@ -2,8 +2,11 @@
 use Rattle.std.proofs.Common.{◌≡◌, ℕ, ◌+◌, ◌<◌, Bool, true, false, cond, eqb, List, [], ◌∷◌, ◌++◌, length, get_or, take, replicate, pos, refl, ap, ◌∙◌, arith}
 use Rattle.std.proofs.lemmas.List.{get_or-replicate, take_more}
 use Rattle.std.proofs.lemmas.Bool.{eqb-true}
-use Rattle.terms.specs.Family.{Answers, Law}
-use Rattle.rows.specs.Rows.{rows, lots_in, no_account}
+use Rattle.terms.specs.Family.{Answers}
+use Rattle.rows.specs.Rows.{places, rows, lots_in, no_account, no_series}
+use Rattle.rows.specs.declared.table.Place.{Place}
+use Rattle.rows.specs.declared.table.Place.TheVariants.{Free, Taken}
+use Rattle.ledger.proofs.Views.{not_both}
 use Rattle.rows.specs.Opening.{new_account}
 use Rattle.rows.specs.Calls.{empty, refusal, after, settled, step, run}
 use Rattle.rows.specs.declared.table.Account.{Account}
@@ -25,23 +28,23 @@ use Rattle.ledger.proofs.FixStep.{fixing_holds}
 use Rattle.ledger.proofs.ExpiryStep.{expiry_holds}
 
 -- one call, accepted or refused
-after_holds : (a : Answers) → Law a → (t : Table) (g : Ledger) (c : Call) → Holds t g → refusal a t c ≡ 0 → Holds (after a t c) (post a g c)
-after_holds a law t g (Opening day account) h ok = opening_holds a t g day account h ok
-after_holds a law t g (Listing day name stock units price) h ok = listing_holds a law t g day name stock units price h ok
-after_holds a law t g (Trade day name buyer seller price lots) h ok = trade_holds a t g day name buyer seller price lots h ok
-after_holds a law t g (Mark day name price) h ok = mark_holds a t g day name price h ok
-after_holds a law t g (Adjustment day event) h ok = adjustment_holds a t g day event h ok
-after_holds a law t g (Fixing day stock deadline close) h ok = fixing_holds a t g day stock deadline close h
-after_holds a law t g (Expiry day name price close) h ok = expiry_holds a t g day name price close h ok
+after_holds : (a : Answers) (t : Table) (g : Ledger) (c : Call) → Holds a t g → refusal a t c ≡ 0 → Holds a (after a t c) (post a g c)
+after_holds a t g (Opening day account) h ok = opening_holds a t g day account h ok
+after_holds a t g (Listing day name stock units price) h ok = listing_holds a t g day name stock units price h ok
+after_holds a t g (Trade day name buyer seller price lots) h ok = trade_holds a t g day name buyer seller price lots h ok
+after_holds a t g (Mark day name price) h ok = mark_holds a t g day name price h ok
+after_holds a t g (Adjustment day event) h ok = adjustment_holds a t g day event h ok
+after_holds a t g (Fixing day stock deadline close) h ok = fixing_holds a t g day stock deadline close h
+after_holds a t g (Expiry day name price close) h ok = expiry_holds a t g day name price close h ok
 
-step_by : (a : Answers) → Law a → (t : Table) (g : Ledger) (c : Call) → Holds t g → (b : Bool) → eqb (refusal a t c) 0 ≡ b → Holds (cond b (after a t c) t) (cond b (post a g c) g)
-step_by a law t g c h true e = after_holds a law t g c h (eqb-true (refusal a t c) 0 e)
-step_by a law t g c h false e = h
+step_by : (a : Answers) (t : Table) (g : Ledger) (c : Call) → Holds a t g → (b : Bool) → eqb (refusal a t c) 0 ≡ b → Holds a (cond b (after a t c) t) (cond b (post a g c) g)
+step_by a t g c h true e = after_holds a t g c h (eqb-true (refusal a t c) 0 e)
+step_by a t g c h false e = h
 
-pub run_holds : (a : Answers) → Law a → (cs : List Call) (t : Table) (g : Ledger) → Holds t g → Holds (run a t cs) (posted a g cs (outcomes a t cs))
-run_holds a law [] t g h = h
-run_holds a law (c ∷ cs) t g h =
-    run_holds a law cs (step a t c) (cond (eqb (refusal a t c) 0) (post a g c) g) (step_by a law t g c h (eqb (refusal a t c) 0) refl)
+pub run_holds : (a : Answers) (cs : List Call) (t : Table) (g : Ledger) → Holds a t g → Holds a (run a t cs) (posted a g cs (outcomes a t cs))
+run_holds a [] t g h = h
+run_holds a (c ∷ cs) t g h =
+    run_holds a cs (step a t c) (cond (eqb (refusal a t c) 0) (post a g c) g) (step_by a t g c h (eqb (refusal a t c) 0) refl)
 
 -- an empty book
 blank_at : (i : ℕ) → i < rows → get_or (replicate rows (new_account 0)) i no_account ≡ new_account 0
@@ -52,8 +55,8 @@ no_number i =
     number_at (replicate rows (new_account 0)) i
     ∙ replicate_at (λ (r : Account). r.number ≡ 0) no_account refl (new_account 0) refl rows i
 
-empty_holds : Holds empty blank
-empty_holds =
+empty_holds : (a : Answers) → Holds a empty blank
+empty_holds a =
     record {
       well =
           record {
@@ -62,6 +65,7 @@ empty_holds =
             lots = λ i h. ap (λ (r : Account). length r.lots) (blank_at i h);
             spare = λ i c h. blank_at i h;
             orderly = record { names = tt; stocks = tt; free = λ j e. replicate_at (λ (r : Account). lots_in j r ≡ pos 0) no_account refl (new_account 0) (no_lots j 0) rows };
+            nameless = λ e j m. replicate_at (λ (x : Place). x ≡ Taken m → m.terms.series ≡ no_series) Free (not_both m) Free (not_both m) places j;
             numbers = λ i j h e. absurd (omega (arith, no_number i));
           };
       balanced =
@@ -77,11 +81,11 @@ empty_holds =
           };
     }
 
-pub holds_after : (a : Answers) → Law a → (cs : List Call) → Holds (run a empty cs) (ledger_of a cs)
-holds_after a law cs = run_holds a law cs empty blank empty_holds
+pub holds_after : (a : Answers) (cs : List Call) → Holds a (run a empty cs) (ledger_of a cs)
+holds_after a cs = run_holds a cs empty blank (empty_holds a)
 
-pub stands : (a : Answers) → Law a → (cs : List Call) → Stands a cs
-stands a law cs = let h = holds_after a law cs in record { balanced = h.balanced; agrees = h.agrees; orderly = h.well.orderly }
+pub stands : (a : Answers) (cs : List Call) → Stands a cs
+stands a cs = let h = holds_after a cs in record { balanced = h.balanced; agrees = h.agrees; orderly = h.well.orderly }
 
 -- a loop that makes the calls one by one
 run_push : (a : Answers) (cs : List Call) (t : Table) (c : Call) → run a t (cs ++ (c ∷ [])) ≡ step a (run a t cs) c

@@ -22,9 +22,10 @@ use Rattle.ledger.specs.Agreement.{Agrees, Balanced, if_number, lots_of, view, c
 use Rattle.ledger.proofs.Ring.{mul_subℤ}
 use Rattle.ledger.proofs.Sums.{total_map, total_where, perm_map, perm_from}
 use Rattle.ledger.proofs.Found.{Live, accepted, live}
-use Rattle.ledger.proofs.Views.{view_amend}
+use Rattle.ledger.proofs.Views.{view_amend, taken_is}
 use Rattle.ledger.proofs.Apart.{names_amend, stocks_amend, free_before}
 use Rattle.ledger.proofs.Gains.{Gains, no_gain, open_gained, row_gained, equity_gained, total_gained, well_gained, by_lots, none_in_all}
+use Rattle.ledger.proofs.Listed.{nameless_set}
 use Rattle.ledger.proofs.Well.{Well, Holds, pick}
 
 -- lots at another carry
@@ -41,7 +42,7 @@ mark_gains j gain =
           ap (λ (z : ℤ). record { number = r.number; equity = z; lots = r.lots }) (no_gain r.equity (lots_in j r) gain (e j));
     }
 
-module _ (a : Answers) (t : Table) (g : Ledger) (day : ℕ) (name : Name) (price : ℕ) (h : Holds t g) (ok : first (mark_refusals a t day name price) ≡ 0) where
+module _ (a : Answers) (t : Table) (g : Ledger) (day : ℕ) (name : Name) (price : ℕ) (h : Holds a t g) (ok : first (mark_refusals a t day name price) ≡ 0) where
   abbrev k : Series
   k = series_of a name
 
@@ -100,9 +101,10 @@ module _ (a : Answers) (t : Table) (g : Ledger) (day : ℕ) (name : Name) (price
         equity = total_gained (mark_gains p d) old (none_in_all p d old (h.balanced.lots p)) ∙ h.balanced.equity;
       }
 
-  mark_well : Well (mark_table a t day name price)
+  mark_well : Well a (mark_table a t day name price)
   mark_well =
       well_gained (mark_gains p d) t h.well (set t.lines p (Taken l')) day (length-set t.lines p (Taken l') ∙ h.well.lines)
+      (nameless_set a t.lines p (Taken l') (λ m q e. ap (λ (x : Line). x.terms.series) (sym (taken_is l' m q)) ∙ h.well.nameless e p l found.taken) h.well.nameless)
       (record {
         names = names_amend l l' refl t.lines p found.taken h.well.orderly.names;
         stocks = stocks_amend l l' refl t.lines p found.taken h.well.orderly.stocks;
@@ -110,5 +112,5 @@ module _ (a : Answers) (t : Table) (g : Ledger) (day : ℕ) (name : Name) (price
             ap (lots_in j) (row_gained (mark_gains p d) old i) ∙ h.well.orderly.free j (free_before l' t.lines p j e) i;
       })
 
-  pub mark_holds : Holds (mark_table a t day name price) (post a g (Mark day name price))
+  pub mark_holds : Holds a (mark_table a t day name price) (post a g (Mark day name price))
   mark_holds = record { well = mark_well; balanced = mark_balanced; agrees = mark_agrees }

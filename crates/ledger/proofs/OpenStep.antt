@@ -37,7 +37,7 @@ no_worth rs n h j (Free ∷ ls) = no_worth rs n h (suc j) ls
 no_worth rs n h j (Taken l ∷ ls) =
     ap₂ (λ (x y : ℤ). x +ℤ y) (ap (λ (z : ℤ). z *ℤ pos l.carry) (h j) ∙ zero_mulℤ (pos l.carry)) (no_worth rs n h (suc j) ls)
 
-module _ (a : Answers) (t : Table) (g : Ledger) (day n : ℕ) (h : Holds t g) (ok : first (opening_refusals t day n) ≡ 0) where
+module _ (a : Answers) (t : Table) (g : Ledger) (day n : ℕ) (h : Holds a t g) (ok : first (opening_refusals t day n) ≡ 0) where
   abbrev old : List Account
   old = t.accounts
 
@@ -113,7 +113,7 @@ module _ (a : Answers) (t : Table) (g : Ledger) (day n : ℕ) (h : Holds t g) (o
       none_at (λ (r : Account). r.number ≡ n → ⊥) no_account (λ q. omega arith) (numbered n) (λ r. eqb-false r.number n) old absent j
       (sym (number_at old j) ∙ e)
 
-  opening_well : Well (opening_table t day n)
+  opening_well : Well a (opening_table t day n)
   opening_well =
       record {
         lines = h.well.lines;
@@ -127,6 +127,7 @@ module _ (a : Answers) (t : Table) (g : Ledger) (day n : ℕ) (h : Holds t g) (o
               stocks = h.well.orderly.stocks;
               free = λ j e i. row_by (λ (r : Account). lots_in j r ≡ pos 0) (no_lots j n) i (h.well.orderly.free j e i);
             };
+        nameless = h.well.nameless;
         numbers =
             let c = within in
             subst (λ (ns : List ℕ). NumbersDiffer ns)
@@ -135,5 +136,5 @@ module _ (a : Answers) (t : Table) (g : Ledger) (day n : ℕ) (h : Holds t g) (o
             unused h.well.numbers);
       }
 
-  pub opening_holds : Holds (opening_table t day n) (post a g (Opening day n))
+  pub opening_holds : Holds a (opening_table t day n) (post a g (Opening day n))
   opening_holds = record { well = opening_well; balanced = opening_balanced; agrees = opening_agrees }

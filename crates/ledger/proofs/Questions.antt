@@ -2,7 +2,7 @@
 use Rattle.std.proofs.Common.{not, List, sym, refl, ◌∙◌}
 use Rattle.std.proofs.lemmas.Bool.{or_parts}
 use Rattle.terms.specs.Units.{is_day, is_number}
-use Rattle.terms.specs.Family.{Answers, Law}
+use Rattle.terms.specs.Family.{Answers}
 use Rattle.rows.specs.Rows.{places, found_line, line_at}
 use Rattle.rows.specs.Names.{series_of}
 use Rattle.rows.specs.Questions.{terms_refusals, lots_refusals, equity_refusals}
@@ -15,7 +15,7 @@ use Rattle.ledger.specs.Asked.{Asked, RowsKept}
 use Rattle.ledger.proofs.Found.{accepted, at_least_one}
 use Rattle.ledger.proofs.Firsts.{at_some}
 use Rattle.ledger.proofs.Main.{holds_after}
-use Rattle.ledger.proofs.Answered.{answered}
+use Rattle.ledger.proofs.Answered.{answered, numbers_differ}
 
 asked_by : (a : Answers) (t : Table) (g : Ledger) → Answered t g → Asked a t g
 asked_by a t g h =
@@ -32,8 +32,8 @@ asked_by a t g h =
           h.equity account (at_least_one account (accepted (equity_refusals t account) 0 refl ok)) (accepted (equity_refusals t account) 1 refl ok);
     }
 
-pub asked : (a : Answers) → Law a → (cs : List Call) → Asked a (run a empty cs) (ledger_of a cs)
-asked a law cs = asked_by a (run a empty cs) (ledger_of a cs) (answered a law cs)
+pub asked : (a : Answers) (cs : List Call) → Asked a (run a empty cs) (ledger_of a cs)
+asked a cs = asked_by a (run a empty cs) (ledger_of a cs) (answered a cs)
 
-pub rows_kept : (a : Answers) → Law a → (cs : List Call) → RowsKept (run a empty cs)
-rows_kept a law cs = let w = (holds_after a law cs).well in record { numbers_differ = w.numbers; unused = w.spare }
+pub rows_kept : (a : Answers) (cs : List Call) → RowsKept (run a empty cs)
+rows_kept a cs = record { numbers_differ = numbers_differ a cs; unused = (holds_after a cs).well.spare }

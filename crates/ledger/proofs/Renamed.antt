@@ -1,7 +1,7 @@
 -- The names, prefixes and stocks of the lines after an event: they stay apart where the event was not
 -- refused.
 use Rattle.std.proofs.Common.{◌≡◌, ℕ, zero, suc, ◌+◌, Bool, true, false, cond, not, ◌&&◌, ◌||◌, eqb, ltb, List, [], ◌∷◌, map, sym, refl, ap, ◌∙◌, ap₂, arith}
-use Rattle.std.proofs.lemmas.Bool.{and_parts, or_parts, not-false, not_from_false, eqb-true, eq-eqb, cond-true, cond-false}
+use Rattle.std.proofs.lemmas.Bool.{and_parts, or_parts, not-false, not_from_false, eqb-true, eq-eqb, cond-true, cond-false, le-ltb}
 use Rattle.lookup.specs.Seek.{any_of}
 use Rattle.terms.specs.Events.{no_successor}
 use Rattle.terms.specs.Family.{Answers}
@@ -9,7 +9,7 @@ use Rattle.terms.specs.Adjust.{takes_in, next_series}
 use Rattle.terms.specs.declared.code.Prefix.{Prefix}
 use Rattle.terms.specs.declared.code.Series.{Series}
 use Rattle.terms.specs.declared.event.Event.{Event}
-use Rattle.rows.specs.Rows.{same_prefix, same_series}
+use Rattle.rows.specs.Rows.{same_prefix, same_series, no_series}
 use Rattle.rows.specs.Listing.{clashes}
 use Rattle.rows.specs.Adjustment.{contradicts, bears, meets, adjusted_line, place_adjusted}
 use Rattle.rows.specs.declared.table.Line.{Line}
@@ -27,6 +27,17 @@ line_after a day event = if_passes (λ l. takes_in day event l.terms) (adjusted_
 
 pub adjusts_places : (a : Answers) (day : ℕ) (event : Event) → Changes (place_adjusted a day event) (line_after a day event)
 adjusts_places a day event = record { free = refl; taken = λ l. refl }
+
+-- a line that has no name expires on day 0, and so an event leaves it as it is
+not_after : (day : ℕ) (b : Bool) → (b && ltb day 0) ≡ false
+not_after day true = le-ltb day 0 (omega arith)
+not_after day false = refl
+
+pub unnamed_stays : (a : Answers) (day : ℕ) (event : Event) (l : Line) → l.terms.series ≡ no_series → (line_after a day event l).terms.series ≡ no_series
+unnamed_stays a day event l e =
+    let out : takes_in day event l.terms ≡ false =
+    ap (λ (s : Series). eqb l.terms.stock event.stock && ltb day s.expiry) e ∙ not_after day (eqb l.terms.stock event.stock) in
+    ap (λ (x : Line). x.terms.series) (cond-false (takes_in day event l.terms) (adjusted_line a day event l) l out) ∙ e
 
 -- of two tests that do not both pass, the second fails where the first passes
 then_not : (x y : Bool) → (x && y) ≡ false → x ≡ true → y ≡ false

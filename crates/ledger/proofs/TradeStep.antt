@@ -65,7 +65,7 @@ same_numbers rs i r e =
     map-set (λ (r : Account). r.number) rs i r
     ∙ (ap (set (numbers rs) i) (e ∙ sym (number_at rs i)) ∙ set-get_or (numbers rs) i 0)
 
-module _ (a : Answers) (t : Table) (g : Ledger) (day : ℕ) (name : Name) (b s price n : ℕ) (h : Holds t g) (ok : first (trade_refusals a t day name b s price n) ≡ 0) where
+module _ (a : Answers) (t : Table) (g : Ledger) (day : ℕ) (name : Name) (b s price n : ℕ) (h : Holds a t g) (ok : first (trade_refusals a t day name b s price n) ≡ 0) where
   abbrev k : Series
   k = series_of a name
 
@@ -271,7 +271,7 @@ module _ (a : Answers) (t : Table) (g : Ledger) (day : ℕ) (name : Name) (b s p
   in_use : (i m : ℕ) → t.count ≤ i → i < rows → (account_at t i).number ≡ m → 1 ≤ m → ⊥
   in_use i m c d e q = omega (arith, ap (λ (r : Account). r.number) (h.well.spare i c d))
 
-  trade_well : Well (trade_table a t day name b s price n)
+  trade_well : Well a (trade_table a t day name b s price n)
   trade_well =
       record {
         lines = h.well.lines;
@@ -290,10 +290,11 @@ module _ (a : Answers) (t : Table) (g : Ledger) (day : ℕ) (name : Name) (b s p
               stocks = h.well.orderly.stocks;
               free = free_at;
             };
+        nameless = h.well.nameless;
         numbers =
             subst (λ (ns : List ℕ). NumbersDiffer ns)
             (sym numbers_same) h.well.numbers;
       }
 
-  pub trade_holds : Holds (trade_table a t day name b s price n) (post a g (Trade day name b s price n))
+  pub trade_holds : Holds a (trade_table a t day name b s price n) (post a g (Trade day name b s price n))
   trade_holds = record { well = trade_well; balanced = trade_balanced; agrees = trade_agrees }

@@ -13,7 +13,7 @@ use Rattle.ledger.specs.Agreement.{Perm, keep, swap, join, lots_of, view_from, N
 use Rattle.ledger.proofs.Ring.{first_alone, second_alone}
 use Rattle.ledger.proofs.Sums.{perm_refl}
 use Rattle.ledger.proofs.At.{none_at}
-use Rattle.ledger.proofs.SameSeries.{is_series, series_turn}
+use Rattle.ledger.proofs.SameSeries.{is_series, series_turn, not_series}
 
 abbrev pub entry : List Account → ℕ → Line → Entry
 entry rows j l = record { line = l; lots = lots_of rows j }
@@ -22,10 +22,18 @@ entry rows j l = record { line = l; lots = lots_of rows j }
 pub not_both : {P : Type 0} (l : Line) → Free ≡ Taken l → P
 not_both l e = let z : ◌≡◌ {A = ℕ} 0 1 = cc in absurd (omega arith)
 
+-- a place has one line
+pub taken_is : (l m : Line) → Taken l ≡ Taken m → l ≡ m
+taken_is l m e = cc
+
 -- a test that passes nowhere does not pass at a live line
 pub none_taken : (q : Place → Bool) (ls : List Place) (i : ℕ) (l : Line) → any_of q ls ≡ false → get_or ls i Free ≡ Taken l → q (Taken l) ≡ false
 none_taken q ls i l n =
     none_at (λ (x : Place). x ≡ Taken l → q (Taken l) ≡ false) Free (not_both l) q (λ x m e. ap q (sym e) ∙ m) ls n i
+
+-- a name that nothing bears is not that of a live line
+pub not_held : (k : Series) (ls : List Place) (i : ℕ) (l : Line) → any_of (holds (Some k)) ls ≡ false → get_or ls i Free ≡ Taken l → l.terms.series ≡ k → ⊥
+not_held k ls i l n e = not_series l.terms.series k (none_taken (holds (Some k)) ls i l n e)
 
 -- a line before the one of a name has another name
 pub other_name : (k : Series) (x : Line) (ls : List Place) (i : ℕ) (l : Line) → any_of (holds (Some x.terms.series)) ls ≡ false → get_or ls i Free ≡ Taken l → l.terms.series ≡ k → same_series x.terms.series k ≡ false

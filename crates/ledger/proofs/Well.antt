@@ -3,6 +3,7 @@ use Rattle.std.proofs.Common.{◌≡◌, ℕ, ◌<◌, ◌≤◌, ◌⊎◌, Lis
 use Rattle.std.proofs.lemmas.List.{get_or-set_same, get_or-set_other, take-map}
 use Rattle.std.proofs.lemmas.Bool.{cases_eq}
 use Rattle.terms.specs.declared.code.Series.{Series}
+use Rattle.terms.specs.Family.{Answers}
 use Rattle.rows.specs.Rows.{places, rows, lots_in, no_account, place, line_at, account_at}
 use Rattle.rows.specs.Opening.{new_account}
 use Rattle.rows.specs.declared.table.Account.{Account}
@@ -13,20 +14,22 @@ use Rattle.ledger.proofs.Sums.{total_perm}
 use Rattle.ledger.proofs.At.{map_at, replicate_at}
 use Rattle.ledger.proofs.Found.{Live}
 use Rattle.ledger.proofs.Views.{entry, view_pick}
+use Rattle.ledger.proofs.Listed.{Nameless}
 
--- all places and rows are there, unused rows are blank, the places are in order, and account numbers
--- differ
-pub record Well (t : Table) : Type 0 where
+-- all places and rows are there, unused rows are blank, the places are in order, lines have names if
+-- the family can read them, and account numbers differ
+pub record Well (a : Answers) (t : Table) : Type 0 where
   pub lines : length t.lines ≡ places
   pub accounts : length t.accounts ≡ rows
   pub lots : (i : ℕ) → i < rows → length (account_at t i).lots ≡ places
   pub spare : (i : ℕ) → t.count ≤ i → i < rows → account_at t i ≡ new_account 0
   pub orderly : Orderly t
+  pub nameless : Nameless a t.lines
   pub numbers : NumbersDiffer (numbers t.accounts)
 
 -- what holds of a table and its ledger along a run
-pub record Holds (t : Table) (g : Ledger) : Type 0 where
-  pub well : Well t
+pub record Holds (a : Answers) (t : Table) (g : Ledger) : Type 0 where
+  pub well : Well a t
   pub balanced : Balanced t
   pub agrees : Agrees t g
 
@@ -44,8 +47,8 @@ same_open c rs rs' e =
     sym (take-map (λ (r : Account). r.number) c rs') ∙ (ap (take c) e ∙ take-map (λ (r : Account). r.number) c rs)
 
 -- a sum over the ledger's entries of a name is that of the line
-pub pick : (t : Table) (g : Ledger) (k : Series) → Holds t g → Live t k → (f : Entry → ℤ) → total (if_so (is_named k) f) g.lines ≡ f (entry t.accounts (place t k) (line_at t (place t k)))
-pick t g k h found f =
+pub pick : {a : Answers} (t : Table) (g : Ledger) (k : Series) → Holds a t g → Live t k → (f : Entry → ℤ) → total (if_so (is_named k) f) g.lines ≡ f (entry t.accounts (place t k) (line_at t (place t k)))
+pick {a} t g k h found f =
     sym (total_perm (if_so (is_named k) f) h.agrees.lines)
     ∙ view_pick t.accounts k f (place t k) (line_at t (place t k)) found.named
     0 t.lines (place t k) h.well.orderly.names found.taken (omega arith)

@@ -1,5 +1,5 @@
 -- Every adjustment that a run accepts keeps the worth of a lot, in each line that it takes in.
-use Rattle.std.specs.Prelude.{◌≡◌, ℕ, true, List, [], ◌∷◌, get_or, slice_index_or}
+use Rattle.std.specs.Prelude.{◌≡◌, ℕ, true, List, [], ◌∷◌, slice_index_or}
 use Rattle.terms.specs.Family.{Answers}
 use Rattle.terms.specs.Adjust.{takes_in, booked_part}
 use Rattle.terms.specs.Worth.{WorthKept}
@@ -15,7 +15,7 @@ use Rattle.rows.specs.declared.call.Call.TheVariants.{Opening, Listing, Trade, M
 -- booked to the buyer, is worth what a lot was worth before
 pub record LotKept (a : Answers) (e : Event) (l : Line) (t' : Table) (j : ℕ) : Type 0 where
   pub line : Line
-  pub stands : get_or t'.lines j Free ≡ Taken line
+  pub stands : slice_index_or t'.lines j Free ≡ Taken line
   pub worth : WorthKept e l.terms (record { terms = line.terms; booked = booked_part a e l.terms })
 
 -- so it is with all of them
