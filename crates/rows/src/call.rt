@@ -3,7 +3,7 @@ use terms::code::Name;
 use terms::event::Event;
 use terms::units::{Cents, Day, ShareUnits};
 
-#[derive(Clone, Copy)]
+#[derive(Clone, Copy, PartialEq, Eq, Debug)]
 pub enum Call {
     Opening {
         day: Day,

@@ -9,7 +9,7 @@ pub const PLACES: usize = 48;
 pub const ROWS: usize = 64;
 
 /// A live line: its terms, and the value at which each lot is already counted in the equities.
-#[derive(Clone, Copy)]
+#[derive(Clone, Copy, PartialEq, Eq, Debug)]
 pub struct Line {
     pub terms: Terms,
     pub carry: Micros,
@@ -17,7 +17,7 @@ pub struct Line {
 
 /// An account: its equity in micros, and its lots in each place, below zero where they are sold.
 /// A row that is not in use has number 0, no equity and no lots.
-#[derive(Clone, Copy)]
+#[derive(Clone, Copy, PartialEq, Eq, Debug)]
 pub struct Account {
     pub number: u32,
     pub equity: i64,
@@ -25,14 +25,14 @@ pub struct Account {
 }
 
 /// A place for a live line.
-#[derive(Clone, Copy)]
+#[derive(Clone, Copy, PartialEq, Eq, Debug)]
 pub enum Place {
     Free,
     Taken(Line),
 }
 
 /// A book's rows, the number of open accounts and the day of the last accepted call.
-#[derive(Clone, Copy)]
+#[derive(Clone, Copy, PartialEq, Eq, Debug)]
 pub struct Table {
     pub lines: [Place; 48],
     pub accounts: [Account; 64],

@@ -18,7 +18,7 @@ use crate::units::{
 };
 
 /// A line after an event, and what each bought lot is credited with and each sold lot charged.
-#[derive(Clone, Copy)]
+#[derive(Clone, Copy, PartialEq, Eq, Debug)]
 pub struct Adjusted {
     pub terms: Terms,
     pub booked: Dollars,

@@ -4,7 +4,7 @@ ghost use Rattle.terms.specs.Claims.{claim_dollars, subscription_dollars, awaits
 
 use crate::units::{Cents, Day, Dollars, ShareUnits};
 
-#[derive(Clone, Copy)]
+#[derive(Clone, Copy, PartialEq, Eq, Debug)]
 pub enum Claim {
     Absent,
     /// On so many share units, at the subscription price, until the payment deadline.

@@ -7,21 +7,21 @@ use crate::units::{Cents, Day};
 use std::fmt;
 
 /// The two capitals that a stock's codes begin with.
-#[derive(Clone, Copy, PartialEq, Eq)]
+#[derive(Clone, Copy, PartialEq, Eq, Debug)]
 pub struct Prefix {
     pub first: u8,
     pub second: u8,
 }
 
 /// A prefix and the letter that says how often the contract has been adjusted.
-#[derive(Clone, Copy)]
+#[derive(Clone, Copy, PartialEq, Eq, Debug)]
 pub struct Code {
     pub prefix: Prefix,
     pub letter: u8,
 }
 
 /// A name as a call gives it: nothing of it is judged yet.
-#[derive(Clone, Copy)]
+#[derive(Clone, Copy, PartialEq, Eq, Debug)]
 pub struct Name {
     pub code: Code,
     pub expiry: Day,
@@ -30,7 +30,7 @@ pub struct Name {
 }
 
 /// The name of a line: its letter read as a level, its right as what it means.
-#[derive(Clone, Copy, PartialEq, Eq)]
+#[derive(Clone, Copy, PartialEq, Eq, Debug)]
 pub struct Series {
     pub prefix: Prefix,
     pub level: u8,
@@ -40,6 +40,12 @@ pub struct Series {
 }
 
 impl Prefix {
+    /// No prefix, as where an event names none.
+    pub const NONE: Prefix = Prefix {
+        first: 0,
+        second: 0,
+    };
+
     /// Whether both are capitals.
     pub fn is_well_formed(&self) -> bool
         ensures { result ≡ is_prefix self.now }

@@ -9,7 +9,7 @@ use crate::units;
 use crate::units::{Billionths, CashPerShare, Cents, Day};
 
 /// The right to subscribe new shares. A part that is 0 is absent.
-#[derive(Clone, Copy)]
+#[derive(Clone, Copy, PartialEq, Eq, Debug)]
 pub struct Rights {
     pub rate: Billionths,
     pub price: Cents,
@@ -17,13 +17,13 @@ pub struct Rights {
 }
 
 /// The stock that takes the place of the old one, with its prefix. A part that is 0 is absent.
-#[derive(Clone, Copy)]
+#[derive(Clone, Copy, PartialEq, Eq, Debug)]
 pub struct Successor {
     pub stock: u32,
     pub prefix: Prefix,
 }
 
-#[derive(Clone, Copy)]
+#[derive(Clone, Copy, PartialEq, Eq, Debug)]
 pub struct Event {
     pub stock: u32,
     pub cash: CashPerShare,
@@ -33,6 +33,13 @@ pub struct Event {
 }
 
 impl Rights {
+    /// No rights.
+    pub const NONE: Rights = Rights {
+        rate: 0,
+        price: 0,
+        deadline: 0,
+    };
+
     pub(crate) fn are_absent(&self) -> bool
         ensures { result ≡ no_rights self.now }
     {
@@ -47,6 +54,12 @@ impl Rights {
 }
 
 impl Successor {
+    /// No new stock.
+    pub const NONE: Successor = Successor {
+        stock: 0,
+        prefix: Prefix::NONE,
+    };
+
     /// Whether the event names no new stock.
     pub fn is_absent(&self) -> bool
         ensures { result ≡ no_successor self.now }

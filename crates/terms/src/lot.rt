@@ -3,7 +3,7 @@ use crate::right::Right;
 use crate::units::{Cents, Dollars, ShareUnits};
 
 /// All that a family needs to know of a line to value a lot of it.
-#[derive(Clone, Copy)]
+#[derive(Clone, Copy, PartialEq, Eq, Debug)]
 pub struct Lot {
     pub right: Right,
     pub strike: Cents,

@@ -5,7 +5,7 @@ ghost use Rattle.terms.specs.Refusals.{number_of};
 use std::fmt;
 
 /// The reasons, in the order of their numbers: where several fit, the smaller number is given.
-#[derive(Clone, Copy, PartialEq, Eq, Debug)]
+#[derive(Clone, Copy, PartialEq, Eq, PartialOrd, Ord, Debug)]
 pub enum Refusal {
     Malformed = 1,
     OutsideUnits = 2,

@@ -9,7 +9,7 @@ use crate::lot::Lot;
 use crate::units;
 use crate::units::{Dollars, ShareUnits};
 
-#[derive(Clone, Copy)]
+#[derive(Clone, Copy, PartialEq, Eq, Debug)]
 pub struct Terms {
     pub series: Series,
     pub stock: u32,
