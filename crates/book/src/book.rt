@@ -8,19 +8,11 @@ use std::marker::PhantomData;
 use terms::family::Family;
 
 /// A book in a fixed block of memory. Its numbers stay within their limits.
+#[derive(Drop)]
 pub struct Book<F: Family> {
     pub table: Table,
     pub family: PhantomData<F>,
     ghost lines_fit: { all_of line_fits table.lines ≡ true },
     ghost rows_fit: { all_of row_fits table.accounts ≡ true },
     ghost count_in: { table.count ≤ 64 },
-}
-
-impl<F: Family> Drop for Book<F> {
-    fn drop(self) {
-        let Book {
-            table: _,
-            family: _,
-        } = self;
-    }
 }

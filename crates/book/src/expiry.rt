@@ -11,7 +11,7 @@ ghost use Rattle.rows.specs.Calls.{settled};
 use crate::book::Book;
 use lookup::find;
 use moves::lines::dollars_of;
-use rows::gain::Gain;
+use rows::gains::Gain;
 use rows::names::{is_malformed, is_misfit, series_of};
 use rows::rows::line_at;
 use rows::table::Place;
@@ -45,9 +45,7 @@ impl<F: Family> Book<F> {
         if day < self.table.day {
             return Err(Refusal::DayPassed);
         }
-        let Some(place) = find(&self.table.lines, &Some(series_of::<F>(&name))) else {
-            return Err(Refusal::NoLine);
-        };
+        let place = find(&self.table.lines, &Some(series_of::<F>(&name))).ok_or(Refusal::NoLine)?;
         if day < name.expiry {
             return Err(Refusal::WrongSideOfExpiry);
         }
@@ -58,6 +56,7 @@ impl<F: Family> Book<F> {
 
     // Each lot in a place gains what its line is worth at last above its carry, where its claim is
     // settled and no equity then passes its limit. Then the line is gone.
+    #[tactic(auto, using(rows::proofs::Sound::all_can_gain))]
     fn close_line(&mut self, place: usize, price: Cents, close: Cents) -> Result<(), Refusal>
         requires place { place < 48 }
         requires priced { priced F.Family.answers (lot_of (line_at self.old.table place).terms) price ≡ true }

@@ -48,9 +48,7 @@ impl<F: Family> Book<F> {
         if any_clash(&self.table.lines, &name.code.prefix, stock) {
             return Err(Refusal::PrefixConflict);
         }
-        let Some(place) = find(&self.table.lines, &None) else {
-            return Err(Refusal::LinesFull);
-        };
+        let place = find(&self.table.lines, &None).ok_or(Refusal::LinesFull)?;
         if name.expiry <= day {
             return Err(Refusal::WrongSideOfExpiry);
         }

@@ -10,7 +10,7 @@ ghost use Rattle.rows.specs.Calls.{settled};
 
 use crate::book::Book;
 use lookup::find;
-use rows::gains::{any_gains_too_much, gain_all};
+use rows::gains::Gain;
 use rows::names::{is_malformed, is_misfit, series_of};
 use rows::rows::line_at;
 use rows::table::{Line, Place};
@@ -38,9 +38,7 @@ impl<F: Family> Book<F> {
         if day < self.table.day {
             return Err(Refusal::DayPassed);
         }
-        let Some(place) = find(&self.table.lines, &Some(series_of::<F>(&name))) else {
-            return Err(Refusal::NoLine);
-        };
+        let place = find(&self.table.lines, &Some(series_of::<F>(&name))).ok_or(Refusal::NoLine)?;
         if name.expiry < day {
             return Err(Refusal::WrongSideOfExpiry);
         }
@@ -51,6 +49,7 @@ impl<F: Family> Book<F> {
 
     // Each lot in a place gains what its line is now worth above its carry, where no equity then passes
     // its limit.
+    #[tactic(auto, using(rows::proofs::Sound::all_can_gain))]
     fn revalue(&mut self, place: usize, price: Cents) -> Result<(), Refusal>
         requires place { place < 48 }
         requires priced { priced F.Family.answers (lot_of (line_at self.old.table place).terms) price ≡ true }
@@ -60,13 +59,18 @@ impl<F: Family> Book<F> {
     {
         let line = line_at(&self.table.lines, place);
         let value = F::mark_value(&line.terms.lot(), price);
-        if any_gains_too_much(&self.table.accounts, place, line.carry, value) {
+        let gain = Gain {
+            place,
+            from: line.carry,
+            to: value,
+        };
+        if gain.passes_a_limit(&self.table.accounts) {
             return Err(Refusal::EquityPastLimit);
         }
-        gain_all(&mut self.table.accounts, place, line.carry, value);
+        gain.give(&mut self.table.accounts);
         self.table.lines[place] = Place::Taken(Line {
-            terms: line.terms,
             carry: value,
+            ..line
         });
         Ok(())
     }

@@ -54,8 +54,7 @@ impl<F: Family> Book<F> {
         }
         self.table.accounts[self.table.count] = Account {
             number: account,
-            equity: 0,
-            lots: [0; 48],
+            ..UNUSED
         };
         self.table.count += 1;
         self.table.day = day;

@@ -30,9 +30,7 @@ impl<F: Family> Book<F> {
         if is_misfit::<F>(&name) {
             return Err(Refusal::Misfit);
         }
-        let Some(place) = find(&self.table.lines, &Some(series_of::<F>(&name))) else {
-            return Err(Refusal::NoLine);
-        };
+        let place = find(&self.table.lines, &Some(series_of::<F>(&name))).ok_or(Refusal::NoLine)?;
         Ok(line_at(&self.table.lines, place).terms)
     }
 
@@ -50,12 +48,8 @@ impl<F: Family> Book<F> {
         if is_misfit::<F>(&name) {
             return Err(Refusal::Misfit);
         }
-        let Some(place) = find(&self.table.lines, &Some(series_of::<F>(&name))) else {
-            return Err(Refusal::NoLine);
-        };
-        let Some(row) = find(&self.table.accounts, &account) else {
-            return Err(Refusal::AccountNotOpen);
-        };
+        let place = find(&self.table.lines, &Some(series_of::<F>(&name))).ok_or(Refusal::NoLine)?;
+        let row = find(&self.table.accounts, &account).ok_or(Refusal::AccountNotOpen)?;
         Ok(self.table.accounts[row].lots[place])
     }
 
@@ -67,9 +61,7 @@ impl<F: Family> Book<F> {
         if !units::is_number(account) {
             return Err(Refusal::OutsideUnits);
         }
-        let Some(row) = find(&self.table.accounts, &account) else {
-            return Err(Refusal::AccountNotOpen);
-        };
+        let row = find(&self.table.accounts, &account).ok_or(Refusal::AccountNotOpen)?;
         Ok(self.table.accounts[row].equity)
     }
 

@@ -11,6 +11,7 @@ ghost use Rattle.rows.specs.Calls.{settled};
 use crate::book::Book;
 use lookup::find;
 use rows::account::{either_has_too_many, either_has_too_much};
+use rows::gains::Gain;
 use rows::names::{is_malformed, is_misfit, series_of};
 use rows::rows::line_at;
 use terms::code::Name;
@@ -48,15 +49,9 @@ impl<F: Family> Book<F> {
         if day < self.table.day {
             return Err(Refusal::DayPassed);
         }
-        let Some(place) = find(&self.table.lines, &Some(series_of::<F>(&name))) else {
-            return Err(Refusal::NoLine);
-        };
-        let Some(b) = find(&self.table.accounts, &buyer) else {
-            return Err(Refusal::AccountNotOpen);
-        };
-        let Some(s) = find(&self.table.accounts, &seller) else {
-            return Err(Refusal::AccountNotOpen);
-        };
+        let place = find(&self.table.lines, &Some(series_of::<F>(&name))).ok_or(Refusal::NoLine)?;
+        let b = find(&self.table.accounts, &buyer).ok_or(Refusal::AccountNotOpen)?;
+        let s = find(&self.table.accounts, &seller).ok_or(Refusal::AccountNotOpen)?;
         if name.expiry < day {
             return Err(Refusal::WrongSideOfExpiry);
         }
@@ -83,10 +78,20 @@ impl<F: Family> Book<F> {
     {
         let line = line_at(&self.table.lines, place);
         let value = F::trade_value(&line.terms.lot(), price);
+        let buyers = Gain {
+            place,
+            from: value,
+            to: line.carry,
+        };
+        let sellers = Gain {
+            place,
+            from: line.carry,
+            to: value,
+        };
         let buying = self.table.accounts[b];
         let selling = self.table.accounts[s];
-        let bought = buying.buys(place, lots, value, line.carry);
-        let sold = selling.sells(place, lots, line.carry, value);
+        let bought = buying.buys(lots, &buyers);
+        let sold = selling.sells(lots, &sellers);
         if either_has_too_many(&bought, &sold, place) {
             return Err(Refusal::LotsPastLimit);
         }

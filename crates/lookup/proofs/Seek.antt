@@ -1,25 +1,7 @@
 -- Facts of the first place where a test passes, for the crates above too.
-use Rattle.std.proofs.Common.{◌≡◌, ℕ, zero, suc, ◌+◌, ◌<◌, ◌≤◌, Bool, true, false, cond, List, [], ◌∷◌, length, get_or, drop, Some, None, Option, sym, refl, ap, ◌∙◌, ⊎_elim, arith}
-use Rattle.std.proofs.lemmas.List.{at_drop_more, at_drop_all}
+use Rattle.std.proofs.Common.{◌≡◌, ℕ, zero, suc, ◌+◌, ◌<◌, ◌≤◌, Bool, true, false, cond, not, List, [], ◌∷◌, length, get_or, Some, None, Option, sym, refl, ap, ◌∙◌, ⊎_elim, arith}
 use Rattle.std.proofs.lemmas.Bool.{cases_Bool, cases_lt, cases_order, both_ways, or_parts, or_from, cond-true, cond-false, lt-ltb, le-ltb}
 use Rattle.lookup.specs.Seek.{seek, sought, any_of, FirstAt, First}
-
--- Steps of a loop that has passed over the places before i.
-module _ {X : Type 0} (p : X → Bool) (xs : List X) (i : ℕ) where
-  pub seek_found : (d : X) (n : ℕ) → i < length xs → p (get_or xs i d) ≡ true → i + seek p (drop i xs) ≡ n → i ≡ n
-  seek_found d n l h e =
-      let s : seek p (drop i xs) ≡ cond (p (get_or xs i d)) 0 (suc (seek p (drop (i + 1) xs))) = at_drop_more (seek p) xs i d l in
-      let z : seek p (drop i xs) ≡ 0 = s ∙ cond-true _ _ _ h in
-      omega arith
-
-  pub seek_more : (d : X) (n : ℕ) → i < length xs → p (get_or xs i d) ≡ false → i + seek p (drop i xs) ≡ n → (i + 1) + seek p (drop (i + 1) xs) ≡ n
-  seek_more d n l h e =
-      let s : seek p (drop i xs) ≡ cond (p (get_or xs i d)) 0 (suc (seek p (drop (i + 1) xs))) = at_drop_more (seek p) xs i d l in
-      let z : seek p (drop i xs) ≡ suc (seek p (drop (i + 1) xs)) = s ∙ cond-false _ _ _ h in
-      omega arith
-
-  pub seek_all : (n : ℕ) → length xs ≤ i → i + seek p (drop i xs) ≡ n → i ≡ n
-  seek_all n l e = let z : seek p (drop i xs) ≡ 0 = at_drop_all (seek p) xs i l in omega arith
 
 some_none : (i : ℕ) → ◌≡◌ {A = Option ℕ} (Some i) None → ⊥
 some_none i e = let z : ◌≡◌ {A = ℕ} 0 1 = cc in omega arith
@@ -29,10 +11,10 @@ same_place i j n l e = let same : i ≡ j = cc in (same, omega arith)
 
 module _ {X : Type 0} (p : X → Bool) where
   seek_here : (x : X) (xs : List X) → p x ≡ true → seek p (x ∷ xs) ≡ 0
-  seek_here x xs h = cond-true (p x) 0 (suc (seek p xs)) h
+  seek_here x xs h = cond-false (not (p x)) (1 + seek p xs) 0 (ap not h)
 
   seek_later : (x : X) (xs : List X) → p x ≡ false → seek p (x ∷ xs) ≡ suc (seek p xs)
-  seek_later x xs h = cond-false (p x) 0 (suc (seek p xs)) h
+  seek_later x xs h = cond-true (not (p x)) (1 + seek p xs) 0 (ap not h) ∙ omega arith
 
   pub seek_most : (xs : List X) → seek p xs ≤ length xs
   seek_most [] = omega arith
@@ -94,6 +76,9 @@ module _ {X : Type 0} (p : X → Bool) where
       (λ l. absurd (some_none (seek p xs) (sought_some xs (seek p xs) l refl ∙ sym e)))
       (λ l. l)
       (cases_lt (seek p xs) (length xs))
+
+  pub none_any : (xs : List X) → None ≡ sought p xs → any_of p xs ≡ false
+  none_any xs e = seek_out xs (none_sought xs e)
 
   -- Where the relation holds of an answer, the answer is the place.
   first_at_seek : (xs : List X) (i : ℕ) → FirstAt p xs i → i ≡ seek p xs

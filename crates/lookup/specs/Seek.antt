@@ -1,19 +1,18 @@
 -- The first place of a list where a test passes.
-use Rattle.std.specs.Prelude.{◌≡◌, ℕ, suc, ◌<◌, Bool, true, false, cond, ◌||◌, List, [], ◌∷◌, length, Some, None, Option, nat_lt, slice_index_or}
+use Rattle.std.specs.Prelude.{◌≡◌, ℕ, ◌<◌, Bool, true, false, List, length, Some, None, Option, position, slice_index_or}
+use Rattle.std.specs.List.{list_any, position_or_len}
 
 -- The first place where the test passes, or the length where there is none.
 abbrev pub seek : {X : Type 0} → (X → Bool) → List X → ℕ
-seek p [] = 0
-seek p (x ∷ xs) = cond (p x) 0 (suc (seek p xs))
+seek p xs = position_or_len p xs
 
 -- That place, where there is one.
 abbrev pub sought : {X : Type 0} → (X → Bool) → List X → Option ℕ
-sought p xs = cond (nat_lt (seek p xs) (length xs)) (Some (seek p xs)) None
+sought p xs = position p xs
 
 -- Whether the test passes anywhere.
 abbrev pub any_of : {X : Type 0} → (X → Bool) → List X → Bool
-any_of p [] = false
-any_of p (x ∷ xs) = p x || any_of p xs
+any_of p xs = list_any p xs
 
 -- The test passes at place i, and at no place before it.
 pub record FirstAt {X : Type 0} (p : X → Bool) (xs : List X) (i : ℕ) : Type 0 where

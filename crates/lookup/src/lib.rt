@@ -32,12 +32,7 @@ pub fn find<R: Keyed>(rows: &[R], key: &R::Key) -> Option<usize>
     ensures none { result ≡ None → any_of (R.Keyed.has key.now) rows.now ≡ false }
     ensures relation { First (R.Keyed.has key.now) rows.now result }
 {
-    for (i, row) in rows.iter().enumerate() {
-        if matches(row, key) {
-            return Some(i);
-        }
-    }
-    None
+    rows.iter().position(|row| matches(row, key))
 }
 
 // Asks the late comparison only where the early one passes.

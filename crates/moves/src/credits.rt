@@ -9,7 +9,7 @@ use crate::entries::Entries;
 use crate::onset::Onset;
 use rows::account::{is_too_much, moved};
 use rows::table::{Account, Place};
-use sweep::{Change, Test, any, change_all};
+use sweep::{Change, change_all};
 use terms::family::Family;
 use terms::units::Dollars;
 
@@ -20,7 +20,9 @@ impl Entries {
         ensures { result.dollars ≡ map (entry F.Family.answers onset.now.day onset.now.event) lines.now }
     {
         let mut dollars = [0; 48];
-        fill::<F>(&mut dollars, lines, onset);
+        for (j, place) in lines.iter().enumerate() {
+            dollars[j] = booked::<F>(place, onset);
+        }
         Entries { dollars }
     }
 
@@ -29,7 +31,7 @@ impl Entries {
         requires { all_of row_fits accounts.now ≡ true }
         ensures { result ≡ any_of (credit_past self.now.dollars) accounts.now }
     {
-        any(accounts, self)
+        accounts.iter().any(|account| is_too_much(self.equity_of(account)))
     }
 
     /// Each account's lots are credited.
@@ -49,13 +51,15 @@ impl Entries {
     }
 }
 
-fn fill<F: Family>(dollars: &mut [Dollars], lines: &[Place], onset: &Onset)
-    requires long { length dollars.old ≡ length lines.now }
-    requires fit { all_of line_fits lines.now ≡ true }
-    ensures { dollars.new ≡ map (entry F.Family.answers onset.now.day onset.now.event) lines.now }
-{
-    for j in 0..lines.len() {
-        dollars[j] = booked::<F>(&lines[j], onset);
+impl Change for Entries {
+    type Row = Account;
+
+    ghost can = { λ _. row_fits };
+
+    ghost makes = { λ s. credited s.dollars };
+
+    fn change(&self, account: &mut Account) {
+        account.equity = self.equity_of(account);
     }
 }
 
@@ -65,14 +69,10 @@ fn booked<F: Family>(place: &Place, onset: &Onset) -> Dollars
     ensures { result ≡ entry F.Family.answers onset.now.day onset.now.event place.now }
 {
     match place {
-        Place::Free => 0,
-        Place::Taken(line) => {
-            if line.terms.is_taken_in(onset.day, &onset.event) {
-                line.terms.after::<F>(&onset.event).booked
-            } else {
-                0
-            }
+        Place::Taken(line) if line.terms.is_taken_in(onset.day, &onset.event) => {
+            line.terms.after::<F>(&onset.event).booked
         }
+        _ => 0,
     }
 }
 
@@ -85,8 +85,8 @@ fn credit(lots: &[i32], dollars: &[Dollars]) -> i64
     ensures bound { unsigned_abs result ≤ 3840000000000000000 }
 {
     let mut sum = 0;
-    for j in 0..lots.len() {
-        sum = moved(sum, lots[j], 0, dollars[j] as u64 * 1_000_000);
+    for (n, booked) in lots.iter().zip(dollars) {
+        sum = moved(sum, *n, 0, u64::from(*booked) * 1_000_000);
     }
     sum
 }
@@ -96,29 +96,4 @@ fn plus(equity: i64, gain: i64) -> i64
     ensures { result ≡ equity +ℤ gain }
 {
     equity + gain
-}
-
-/// Whether an account's equity would pass its limit.
-impl Test for Entries {
-    type Row = Account;
-
-    ghost can = { row_fits };
-
-    ghost says = { λ s r. credit_past s.dollars r };
-
-    fn test(&self, account: &Account) -> bool {
-        is_too_much(self.equity_of(account))
-    }
-}
-
-impl Change for Entries {
-    type Row = Account;
-
-    ghost can = { λ s r. row_fits r };
-
-    ghost makes = { λ s r. credited s.dollars r };
-
-    fn change(&self, account: &mut Account) {
-        account.equity = self.equity_of(account);
-    }
 }

@@ -11,7 +11,7 @@ use crate::fixes::Fix;
 use crate::onset::Onset;
 use rows::table::Place;
 use std::marker::PhantomData;
-use sweep::{Change, Test, any, change_all};
+use sweep::{Change, change_all};
 use terms::claim::Claim;
 use terms::family::Family;
 use terms::terms::Terms;
@@ -27,9 +27,9 @@ struct Moves<F: Family> {
 impl<F: Family> Change for Moves<F> {
     type Row = Place;
 
-    ghost can = { λ s o. line_fits o };
+    ghost can = { λ _. line_fits };
 
-    ghost makes = { λ s o. place_adjusted F.Family.answers s.onset.day s.onset.event o };
+    ghost makes = { λ s. place_adjusted F.Family.answers s.onset.day s.onset.event };
 
     fn change(&self, place: &mut Place) {
         if let Place::Taken(line) = place {
@@ -59,7 +59,7 @@ impl Fix {
     pub fn reaches_any(&self, lines: &[Place]) -> bool
         ensures { result ≡ any_of (is_fixed self.now.stock self.now.deadline) lines.now }
     {
-        any(lines, self)
+        lines.iter().any(|place| self.reaches_into(place))
     }
 
     /// Every claim that it reaches becomes dollars.
@@ -68,6 +68,12 @@ impl Fix {
         ensures { lines.new ≡ map (place_fixed self.now.stock self.now.deadline self.now.close) lines.old }
     {
         change_all(lines, self);
+    }
+
+    fn reaches_into(&self, place: &Place) -> bool
+        ensures { result ≡ is_fixed self.now.stock self.now.deadline place.now }
+    {
+        matches!(place, Place::Taken(line) if self.reaches(&line.terms))
     }
 
     fn reaches(&self, terms: &Terms) -> bool
@@ -79,36 +85,12 @@ impl Fix {
     }
 }
 
-/// What a claim within its units is worth at a close.
-pub fn dollars_of(claim: &Claim, close: Cents) -> Dollars
-    requires { (claim_fits claim.now ≡ true) × (close ≤ 1000000) }
-    ensures { result ≡ claim_dollars close claim.now }
-{
-    claim.dollars_at(close) as Dollars
-}
-
-/// Whether a fixing reaches the line in a place.
-impl Test for Fix {
-    type Row = Place;
-
-    ghost can = { λ _. true };
-
-    ghost says = { λ s o. is_fixed s.stock s.deadline o };
-
-    fn test(&self, place: &Place) -> bool {
-        match place {
-            Place::Free => false,
-            Place::Taken(line) => self.reaches(&line.terms),
-        }
-    }
-}
-
 impl Change for Fix {
     type Row = Place;
 
-    ghost can = { λ s o. line_fits o };
+    ghost can = { λ _. line_fits };
 
-    ghost makes = { λ s o. place_fixed s.stock s.deadline s.close o };
+    ghost makes = { λ s. place_fixed s.stock s.deadline s.close };
 
     fn change(&self, place: &mut Place) {
         if let Place::Taken(line) = place {
@@ -118,4 +100,12 @@ impl Change for Fix {
             }
         }
     }
+}
+
+/// What a claim within its units is worth at a close.
+pub fn dollars_of(claim: &Claim, close: Cents) -> Dollars
+    requires { (claim_fits claim.now ≡ true) × (close ≤ 1000000) }
+    ensures { result ≡ claim_dollars close claim.now }
+{
+    claim.dollars_at(close) as Dollars
 }

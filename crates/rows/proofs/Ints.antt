@@ -29,3 +29,14 @@ product_fits x y h k = mul_in x y 4000 1000000000000000 h k
 
 pub change_in : (from to : ℕ) → from ≤ 1000000000000000 → to ≤ 1000000000000000 → nat_abs (pos to -ℤ pos from) ≤ 1000000000000000
 change_in from to h k = omega (arith, ints)
+
+-- the parts of a gain fit their types
+pub moved_in :
+    (equity lots : ℤ) (from to : ℕ) → nat_abs equity ≤ 4000000000000000000 → nat_abs lots ≤ 4000 → from ≤ 1000000000000000 → to ≤ 1000000000000000 →
+    SFits w64 (pos to -ℤ pos from) × SFits w64 (lots *ℤ (pos to -ℤ pos from)) × SFits w64 (equity +ℤ lots *ℤ (pos to -ℤ pos from))
+moved_in equity lots from to h l o n =
+    let by = pos to -ℤ pos from in
+    let b : nat_abs by ≤ 1000000000000000 = change_in from to o n in
+    let p : nat_abs (lots *ℤ by) ≤ 4000000000000000000 = product_fits lots by l b in
+    let s : nat_abs (equity +ℤ lots *ℤ by) ≤ nat_abs equity + nat_abs (lots *ℤ by) = abs_add equity (lots *ℤ by) in
+    (in64 by (omega arith), in64 (lots *ℤ by) (omega arith), in64 (equity +ℤ lots *ℤ by) (omega arith))

@@ -6,10 +6,9 @@ use Rattle.terms.specs.Units.{most_lots, most_equity, largest_value}
 use Rattle.terms.specs.Terms.{terms_fit}
 use Rattle.terms.specs.declared.terms.Terms.{Terms}
 use Rattle.sweep.specs.Sweep.{all_of}
-use Rattle.sweep.proofs.Every.{all_at, all_set, all_map}
+use Rattle.sweep.proofs.Every.{all_at, all_set, all_from, all_map}
 use Rattle.rows.specs.Rows.{line_or, lots_in, no_account}
-use Rattle.rows.specs.Fits.{past, line_fits, few, row_fits}
-use Rattle.rows.specs.Held.{Held}
+use Rattle.rows.specs.Fits.{past, line_fits, few, row_fits, can_gain}
 use Rattle.rows.specs.Trade.{traded}
 use Rattle.rows.specs.Mark.{gained, gains_past}
 use Rattle.rows.specs.Adjustment.{credit, credited, credit_past}
@@ -45,19 +44,16 @@ lots_few r e = (and_parts (leb (nat_abs r.equity) most_equity) (all_of few r.lot
 row_in : (r : Account) → nat_abs r.equity ≤ most_equity → all_of few r.lots ≡ true → row_fits r ≡ true
 row_in r h k = and_from (leb (nat_abs r.equity) most_equity) (all_of few r.lots) (le-leb (nat_abs r.equity) most_equity h) k
 
-pub held_of : (r : Account) (j from to : ℕ) → row_fits r ≡ true → from ≤ largest_value → to ≤ largest_value → Held r j from to
-held_of r j from to f h k =
-    record {
-      lots = leb-true (nat_abs (lots_in j r)) most_lots (all_at few r.lots j (pos 0) refl (lots_few r f));
-      equity = equity_in r f;
-      old = h;
-      new = k;
-    }
+pub can_gain_of : (j : ℕ) (r : Account) → row_fits r ≡ true → can_gain j r ≡ true
+can_gain_of j r f =
+    and_from (leb (nat_abs r.equity) most_equity) (few (lots_in j r)) (and_parts (leb (nat_abs r.equity) most_equity) (all_of few r.lots) f).0
+    (all_at few r.lots j (pos 0) refl (lots_few r f))
 
-pub held_at :
-    (rows : List Account) (i j from to : ℕ) → all_of row_fits rows ≡ true → from ≤ largest_value → to ≤ largest_value →
-    Held (get_or rows i no_account) j from to
-held_at rows i j from to e = held_of (get_or rows i no_account) j from to (all_at row_fits rows i no_account refl e)
+pub can_gain_at : (rows : List Account) (i j : ℕ) → all_of row_fits rows ≡ true → can_gain j (get_or rows i no_account) ≡ true
+can_gain_at rows i j e = can_gain_of j (get_or rows i no_account) (all_at row_fits rows i no_account refl e)
+
+pub all_can_gain : (rows : List Account) (j : ℕ) → all_of row_fits rows ≡ true → all_of (can_gain j) rows ≡ true
+all_can_gain rows j = all_from row_fits (can_gain j) (can_gain_of j) rows
 
 pub gained_fit :
     (rows : List Account) (j : ℕ) (gain : ℤ) → all_of row_fits rows ≡ true → any_of (gains_past j gain) rows ≡ false →

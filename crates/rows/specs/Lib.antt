@@ -1,6 +1,5 @@
 pub mod Rows
 pub mod Fits
-pub mod Held
 pub mod Names
 pub mod Opening
 pub mod Listing

@@ -5,7 +5,6 @@
 pub mod account;
 pub mod call;
 pub mod clash;
-pub mod gain;
 pub mod gains;
 pub mod names;
 pub mod rows;

@@ -1,7 +1,7 @@
 //! Rows of a book, and how they are found.
 ghost use Rattle.std.specs.Prelude.{◌≡◌, ◌<◌, length, slice_index_or};
 ghost use Rattle.rows.specs.declared.table.Place.TheVariants.{Free};
-ghost use Rattle.rows.specs.Rows.{same_prefix, same_series, holds, may_hold, numbered, line_or};
+ghost use Rattle.rows.specs.Rows.{holds, may_hold, numbered, line_or};
 ghost use Rattle.std.proofs.Common.{rules};
 
 use crate::table::{Account, Line, Place};
@@ -10,22 +10,6 @@ use terms::claim::Claim;
 use terms::code::{Prefix, Series};
 use terms::right::Right;
 use terms::terms::Terms;
-
-pub fn is_same_prefix(a: &Prefix, b: &Prefix) -> bool
-    ensures { result ≡ same_prefix a.now b.now }
-{
-    a.first == b.first && a.second == b.second
-}
-
-pub fn is_same_series(a: &Series, b: &Series) -> bool
-    ensures { result ≡ same_series a.now b.now }
-{
-    a.expiry == b.expiry
-        && is_same_prefix(&a.prefix, &b.prefix)
-        && a.level == b.level
-        && a.right.number() == b.right.number()
-        && a.strike == b.strike
-}
 
 impl Keyed for Place {
     type Key = Option<Series>;
@@ -46,7 +30,7 @@ impl Keyed for Place {
 
     fn has_key(&self, key: &Option<Series>) -> bool {
         match (self, key) {
-            (Place::Taken(line), Some(series)) => is_same_series(&line.terms.series, series),
+            (Place::Taken(line), Some(series)) => line.terms.series == *series,
             (Place::Free, None) => true,
             _ => false,
         }

@@ -1,10 +1,14 @@
 -- A test that all elements pass.
-use Rattle.std.proofs.Common.{◌≡◌, ℕ, zero, suc, ◌<◌, Bool, true, false, List, [], ◌∷◌, map, length, get_or, set, refl, arith}
+use Rattle.std.proofs.Common.{◌≡◌, ℕ, zero, suc, ◌<◌, Bool, true, false, List, [], ◌∷◌, map, length, get_or, set, All, refl, arith}
+use Rattle.std.proofs.lemmas.List.Sums.{AllPass-from_list_all}
 use Rattle.std.proofs.lemmas.Bool.{and_parts, and_from, or_parts}
 use Rattle.lookup.specs.Seek.{any_of}
 use Rattle.sweep.specs.Sweep.{all_of}
 
 module _ {X : Type 0} (p : X → Bool) where
+  pub all_each : (xs : List X) → all_of p xs ≡ true → All (λ x. p x ≡ true) xs
+  all_each xs h = AllPass-from_list_all p xs h
+
   pub all_within : (xs : List X) (i : ℕ) (d : X) → i < length xs → all_of p xs ≡ true → p (get_or xs i d) ≡ true
   all_within [] i d h e = absurd (omega arith)
   all_within (x ∷ xs) zero d h e = (and_parts (p x) (all_of p xs) e).0

@@ -1,11 +1,13 @@
-use Rattle.std.proofs.Common.{sym, ◌∙◌}
-use Rattle.lookup.proofs.Reached.{reached_none, reached_more}
+use Rattle.std.proofs.Common.{◌≡◌, sym, ◌∙◌, rules}
+use Rattle.std.proofs.lemmas.Iterator.{YieldsList-from_slice}
+use Rattle.std.proofs.lemmas.Iterator.Search.{position_from_yields_List}
+use Rattle.lookup.specs.Seek.{sought}
+use Rattle.lookup.proofs.Seek.{none_any}
 use Rattle.lookup.proofs.find.Goals as goal
 
-pub loop-i-init : goal.loop-i-init
-loop-i-init g c = reached_none _ _
-
-pub loop-i-preserved : goal.loop-i-preserved
-loop-i-preserved g c =
-    reached_more _ _ c.loop-i.i c.index-rows-i.result c.loop-i.invariant c.loop-i-test.true c.index-rows-i.is
-    (sym c.matches.ensures ∙ c.if-matches.false)
+pub returns-clause-none : goal.returns-clause-none
+returns-clause-none g c =
+    let found : c.position.result ≡ sought (g.R.Keyed.has c.args.key.now) c.args.rows.now =
+        position_from_yields_List (g.R.Keyed.has c.args.key.now) _ _ c.position.result c.position.ensures.ran
+        (YieldsList-from_slice _ c.iter.ensures.rest) (λ x b q k. search rules) in
+    λ none. none_any (g.R.Keyed.has c.args.key.now) c.args.rows.now (sym none ∙ found)

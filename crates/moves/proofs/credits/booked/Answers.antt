@@ -1,9 +1,5 @@
 use Rattle.rows.proofs.Sound.{taken_fits}
 use Rattle.moves.proofs.credits.booked.Goals as goal
 
-pub after-requires : goal.after-requires
-after-requires g c =
-    record {
-      within = taken_fits c.args.place.now c.in-Taken.line c.in-Taken.is c.requires;
-      inside = c.args.onset.now.inside;
-    }
+pub after-requires-clause-within : goal.after-requires-clause-within
+after-requires-clause-within g c = taken_fits c.args.place.now c.in-Taken.line c.in-Taken.is c.requires
