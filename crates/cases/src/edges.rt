@@ -88,7 +88,7 @@ fn with_claim(claim: Claim) -> Terms {
 }
 
 // Goes through numbers, each with whether the line that has it is within its units.
-fn judge<T: Copy, F: Fn(T) -> Terms>(rt: &impl Abort, line: F, cases: &[(T, bool)])
+fn check_within<T: Copy, F: Fn(T) -> Terms>(rt: &impl Abort, line: F, cases: &[(T, bool)])
     requires { F.IsAlwaysCallable line }
 {
     for &(number, within) in cases {
@@ -96,15 +96,15 @@ fn judge<T: Copy, F: Fn(T) -> Terms>(rt: &impl Abort, line: F, cases: &[(T, bool
     }
 }
 
-// A line with one number changed.
+// A line with one number of its lot changed.
 #[test]
-fn within(rt: HostRuntime) {
-    judge(
+fn lots_within(rt: HostRuntime) {
+    check_within(
         &rt,
         |stock| Terms { stock, ..LINE },
         &[(0, false), (1, true)],
     );
-    judge(
+    check_within(
         &rt,
         |units| Terms { units, ..LINE },
         &[
@@ -114,7 +114,7 @@ fn within(rt: HostRuntime) {
             (400_000_001, false),
         ],
     );
-    judge(
+    check_within(
         &rt,
         |strike_lot| Terms { strike_lot, ..LINE },
         &[
@@ -124,12 +124,17 @@ fn within(rt: HostRuntime) {
             (400_000_001, false),
         ],
     );
-    judge(
+    check_within(
         &rt,
         |cash| Terms { cash, ..LINE },
         &[(100_000_000, true), (100_000_001, false)],
     );
-    judge(
+}
+
+// A line with one number of its series changed.
+#[test]
+fn series_within(rt: HostRuntime) {
+    check_within(
         &rt,
         |level| in_series(Series {
             level,
@@ -137,7 +142,7 @@ fn within(rt: HostRuntime) {
         }),
         &[(9, true), (10, false)],
     );
-    judge(
+    check_within(
         &rt,
         |expiry| in_series(Series {
             expiry,
@@ -145,7 +150,7 @@ fn within(rt: HostRuntime) {
         }),
         &[(60_000, true), (60_001, false)],
     );
-    judge(
+    check_within(
         &rt,
         |strike| in_series(Series {
             strike,
@@ -153,22 +158,27 @@ fn within(rt: HostRuntime) {
         }),
         &[(1_000_000, true), (1_000_001, false)],
     );
-    judge(
+}
+
+// A line with a claim.
+#[test]
+fn claims_within(rt: HostRuntime) {
+    check_within(
         &rt,
         |units| with_claim(open(units, 1, 1)),
         &[(0, true), (400_000_000, true), (400_000_001, false)],
     );
-    judge(
+    check_within(
         &rt,
         |price| with_claim(open(1, price, 1)),
         &[(0, false), (1, true), (1_000_000, true), (1_000_001, false)],
     );
-    judge(
+    check_within(
         &rt,
         |deadline| with_claim(open(1, 1, deadline)),
         &[(60_000, true), (60_001, false)],
     );
-    judge(
+    check_within(
         &rt,
         |dollars| with_claim(Claim::Fixed { dollars }),
         &[(400_000_000, true), (400_000_001, false)],
@@ -256,9 +266,8 @@ fn largest_values(rt: HostRuntime) {
     let call = Lot {
         right: Right::Call,
         strike: 1,
-        units: 400_000_000,
         strike_lot: 1,
-        cash: 100_000_000,
+        ..future
     };
     let put = Lot {
         right: Right::Put,

@@ -57,10 +57,7 @@ fn options(rt: HostRuntime) {
     };
     let put = Lot {
         right: Right::Put,
-        strike: 5_000,
-        units: 22_000_000,
-        strike_lot: 20_000_000,
-        cash: 2_000,
+        ..call
     };
     assert_eq!(rt; Options::trade_value(&call, 300), 6_000_000_000);
     assert_eq!(rt; Options::mark_value(&call, 300), 0);
