@@ -21,7 +21,7 @@ const STOCK: u32 = 1605;
 /// 2,000 shares.
 const LOT: u32 = 20_000_000;
 
-/// The name that a family's line is read from.
+/// The family of a line: a value, since one table has lines of both.
 #[derive(Clone, Copy)]
 enum Book {
     Futures,
