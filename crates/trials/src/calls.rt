@@ -191,8 +191,8 @@ static FULL: [(Step, Answer); 14] = [
     (Lots(65, Fit(b"CS0", 247), 0), Err(16)),
 ];
 
-// Lists lines and opens accounts, two more than there are rows for. (The count is a value here: it
-// makes an expiry and an account.)
+// Lists lines and opens accounts, more than there is room for. (The count is a value here: it makes
+// an expiry and an account.)
 fn fill<F: Family>(rt: &impl Abort, style: &Style) {
     let mut book = Book::<F>::new();
     for i in 0..66u16 {
