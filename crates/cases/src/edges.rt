@@ -1,7 +1,7 @@
 //! The edges of the day, of a line's numbers and of what an event takes in; letters, and the largest
 //! values.
+use crate::answers::{Answer, answer};
 use std::process::Abort;
-use std::test::*;
 use terms::claim::Claim;
 use terms::code::{Prefix, Series};
 use terms::event::{Event, Rights, Successor};
@@ -41,18 +41,8 @@ const SHARES: Event = Event {
     stock: STOCK,
     cash: 0,
     ratio: 1_100_000_000,
-    rights: Rights {
-        rate: 0,
-        price: 0,
-        deadline: 0,
-    },
-    successor: Successor {
-        stock: 0,
-        prefix: Prefix {
-            first: 0,
-            second: 0,
-        },
-    },
+    rights: Rights::NONE,
+    successor: Successor::NONE,
 };
 
 /// The same with rights whose deadline is before the day.
@@ -65,61 +55,19 @@ const LATE: Event = Event {
     ..SHARES
 };
 
-/// A day, an event's stock, and the number of the refusal by the event alone, 0 where there is none.
-const ALONE: [(u16, u32, u8); 4] = [
-    (60_000, STOCK, 0),
-    (60_001, STOCK, 2),
-    (60_000, 0, 2),
-    (0, 4_294_967_295, 0),
+/// A day, an event's stock, and the answer by the event alone.
+const ALONE: [(u16, u32, Answer); 4] = [
+    (60_000, STOCK, Ok(())),
+    (60_001, STOCK, Err(2)),
+    (60_000, 0, Err(2)),
+    (0, 4_294_967_295, Ok(())),
 ];
 
 #[test]
-fn events_alone(rt: HostRuntime) -> Result<(), Fail> {
-    for (day, stock, number) in &ALONE {
-        let mut event = SHARES;
-        event.stock = *stock;
-        match event.judge(*day) {
-            Ok(()) => assert_eq!(rt; 0, *number),
-            Err(refusal) => assert_eq!(rt; refusal.number(), *number),
-        }
-    }
-    Ok(())
-}
-
-/// One number of a line.
-#[derive(Clone, Copy)]
-enum Number {
-    Stock(u32),
-    Units(u32),
-    StrikeLot(u32),
-    Cash(u32),
-    Level(u8),
-    Expiry(u16),
-    Strike(u32),
-    ClaimUnits(u32),
-    ClaimPrice(u32),
-    ClaimDeadline(u16),
-    ClaimDollars(u32),
-}
-
-impl Number {
-    // The line with this number changed.
-    fn line(self) -> Terms {
-        let mut line = LINE;
-        match self {
-            Number::Stock(stock) => line.stock = stock,
-            Number::Units(units) => line.units = units,
-            Number::StrikeLot(units) => line.strike_lot = units,
-            Number::Cash(dollars) => line.cash = dollars,
-            Number::Level(level) => line.series.level = level,
-            Number::Expiry(day) => line.series.expiry = day,
-            Number::Strike(cents) => line.series.strike = cents,
-            Number::ClaimUnits(units) => line.claim = open(units, 1, 1),
-            Number::ClaimPrice(cents) => line.claim = open(1, cents, 1),
-            Number::ClaimDeadline(day) => line.claim = open(1, 1, day),
-            Number::ClaimDollars(dollars) => line.claim = Claim::Fixed { dollars },
-        }
-        line
+fn events_alone(rt: HostRuntime) {
+    for &(day, stock, expected) in &ALONE {
+        let event = Event { stock, ..SHARES };
+        assert_eq!(rt; answer(event.judge(day)), expected);
     }
 }
 
@@ -131,131 +79,183 @@ fn open(units: u32, price: u32, deadline: u16) -> Claim {
     }
 }
 
-/// A line with one number changed, and whether it is within its units.
-const WITHIN: [(Number, bool); 29] = [
-    (Number::Stock(0), false),
-    (Number::Stock(1), true),
-    (Number::Units(0), false),
-    (Number::Units(1), true),
-    (Number::Units(400_000_000), true),
-    (Number::Units(400_000_001), false),
-    (Number::StrikeLot(0), false),
-    (Number::StrikeLot(1), true),
-    (Number::StrikeLot(400_000_000), true),
-    (Number::StrikeLot(400_000_001), false),
-    (Number::Cash(100_000_000), true),
-    (Number::Cash(100_000_001), false),
-    (Number::Level(9), true),
-    (Number::Level(10), false),
-    (Number::Expiry(60_000), true),
-    (Number::Expiry(60_001), false),
-    (Number::Strike(1_000_000), true),
-    (Number::Strike(1_000_001), false),
-    (Number::ClaimUnits(0), true),
-    (Number::ClaimUnits(400_000_000), true),
-    (Number::ClaimUnits(400_000_001), false),
-    (Number::ClaimPrice(0), false),
-    (Number::ClaimPrice(1), true),
-    (Number::ClaimPrice(1_000_000), true),
-    (Number::ClaimPrice(1_000_001), false),
-    (Number::ClaimDeadline(60_000), true),
-    (Number::ClaimDeadline(60_001), false),
-    (Number::ClaimDollars(400_000_000), true),
-    (Number::ClaimDollars(400_000_001), false),
-];
+fn in_series(series: Series) -> Terms {
+    Terms { series, ..LINE }
+}
 
-#[test]
-fn within(rt: HostRuntime) -> Result<(), Fail> {
-    for (number, within) in &WITHIN {
-        assert_eq!(rt; number.line().is_within_units(), *within);
+fn with_claim(claim: Claim) -> Terms {
+    Terms { claim, ..LINE }
+}
+
+// Goes through numbers, each with whether the line that has it is within its units.
+fn check_within<T: Copy, F: Fn(T) -> Terms>(rt: &impl Abort, line: F, cases: &[(T, bool)])
+    requires { F.IsAlwaysCallable line }
+{
+    for &(number, within) in cases {
+        assert_eq!(rt; line(number).is_within_units(), within);
     }
-    Ok(())
+}
+
+// A line with one number of its lot changed.
+#[test]
+fn lots_within(rt: HostRuntime) {
+    check_within(
+        &rt,
+        |stock| Terms { stock, ..LINE },
+        &[(0, false), (1, true)],
+    );
+    check_within(
+        &rt,
+        |units| Terms { units, ..LINE },
+        &[
+            (0, false),
+            (1, true),
+            (400_000_000, true),
+            (400_000_001, false),
+        ],
+    );
+    check_within(
+        &rt,
+        |strike_lot| Terms { strike_lot, ..LINE },
+        &[
+            (0, false),
+            (1, true),
+            (400_000_000, true),
+            (400_000_001, false),
+        ],
+    );
+    check_within(
+        &rt,
+        |cash| Terms { cash, ..LINE },
+        &[(100_000_000, true), (100_000_001, false)],
+    );
+}
+
+// A line with one number of its series changed.
+#[test]
+fn series_within(rt: HostRuntime) {
+    check_within(
+        &rt,
+        |level| in_series(Series {
+            level,
+            ..LINE.series
+        }),
+        &[(9, true), (10, false)],
+    );
+    check_within(
+        &rt,
+        |expiry| in_series(Series {
+            expiry,
+            ..LINE.series
+        }),
+        &[(60_000, true), (60_001, false)],
+    );
+    check_within(
+        &rt,
+        |strike| in_series(Series {
+            strike,
+            ..LINE.series
+        }),
+        &[(1_000_000, true), (1_000_001, false)],
+    );
+}
+
+// A line with a claim.
+#[test]
+fn claims_within(rt: HostRuntime) {
+    check_within(
+        &rt,
+        |units| with_claim(open(units, 1, 1)),
+        &[(0, true), (400_000_000, true), (400_000_001, false)],
+    );
+    check_within(
+        &rt,
+        |price| with_claim(open(1, price, 1)),
+        &[(0, false), (1, true), (1_000_000, true), (1_000_001, false)],
+    );
+    check_within(
+        &rt,
+        |deadline| with_claim(open(1, 1, deadline)),
+        &[(60_000, true), (60_001, false)],
+    );
+    check_within(
+        &rt,
+        |dollars| with_claim(Claim::Fixed { dollars }),
+        &[(400_000_000, true), (400_000_001, false)],
+    );
 }
 
 /// A day, an event, a line's stock, expiry and level; whether the event takes the line in, and the
-/// number of the refusal, 0 where there is none.
+/// answer.
 #[derive(Clone, Copy)]
-struct Meeting(u16, Event, u32, u16, u8, bool, u8);
+struct Meeting(u16, Event, u32, u16, u8, bool, Answer);
 
 const MEETINGS: [Meeting; 12] = [
     // 12: the line expires on the day or before it, or is of another stock.
-    Meeting(TODAY, SHARES, STOCK, 7_999, 0, false, 12),
-    Meeting(TODAY, SHARES, STOCK, 8_000, 0, false, 12),
-    Meeting(TODAY, SHARES, STOCK, 8_001, 0, true, 0),
-    Meeting(TODAY, SHARES, 1606, 8_001, 0, false, 12),
+    Meeting(TODAY, SHARES, STOCK, 7_999, 0, false, Err(12)),
+    Meeting(TODAY, SHARES, STOCK, 8_000, 0, false, Err(12)),
+    Meeting(TODAY, SHARES, STOCK, 8_001, 0, true, Ok(())),
+    Meeting(TODAY, SHARES, 1606, 8_001, 0, false, Err(12)),
     // 12 comes before 21, and 6 before 12.
-    Meeting(TODAY, SHARES, STOCK, 8_001, 9, true, 21),
-    Meeting(TODAY, SHARES, STOCK, 8_000, 9, false, 12),
-    Meeting(TODAY, SHARES, 1606, 8_001, 9, false, 12),
-    Meeting(TODAY, LATE, STOCK, 8_000, 0, false, 6),
-    Meeting(TODAY, LATE, 1606, 8_001, 9, false, 6),
+    Meeting(TODAY, SHARES, STOCK, 8_001, 9, true, Err(21)),
+    Meeting(TODAY, SHARES, STOCK, 8_000, 9, false, Err(12)),
+    Meeting(TODAY, SHARES, 1606, 8_001, 9, false, Err(12)),
+    Meeting(TODAY, LATE, STOCK, 8_000, 0, false, Err(6)),
+    Meeting(TODAY, LATE, 1606, 8_001, 9, false, Err(6)),
     // The last days.
-    Meeting(59_999, SHARES, STOCK, 60_000, 0, true, 0),
-    Meeting(60_000, SHARES, STOCK, 60_000, 0, false, 12),
-    Meeting(60_001, SHARES, STOCK, 60_000, 0, false, 2),
+    Meeting(59_999, SHARES, STOCK, 60_000, 0, true, Ok(())),
+    Meeting(60_000, SHARES, STOCK, 60_000, 0, false, Err(12)),
+    Meeting(60_001, SHARES, STOCK, 60_000, 0, false, Err(2)),
 ];
 
-impl Meeting {
-    fn line(&self) -> Terms {
-        let mut line = LINE;
-        line.stock = self.2;
-        line.series.expiry = self.3;
-        line.series.level = self.4;
-        line
-    }
-
-    fn refusal<F: Family>(&self) -> u8 {
-        match self.line().adjust::<F>(self.0, &self.1) {
-            Ok(_) => 0,
-            Err(refusal) => refusal.number(),
-        }
-    }
-}
-
 #[test]
-fn taken_in(rt: HostRuntime) -> Result<(), Fail> {
-    for meeting in &MEETINGS {
-        assert_eq!(rt;
-            meeting.line().is_taken_in(meeting.0, &meeting.1),
-            meeting.5
-        );
-        assert_eq!(rt; meeting.refusal::<Futures>(), meeting.6);
-        assert_eq!(rt; meeting.refusal::<Options>(), meeting.6);
+fn taken_in(rt: HostRuntime) {
+    for &Meeting(day, event, stock, expiry, level, taken_in, expected) in &MEETINGS {
+        let series = Series {
+            level,
+            expiry,
+            ..LINE.series
+        };
+        let line = Terms {
+            series,
+            stock,
+            ..LINE
+        };
+        assert_eq!(rt; line.is_taken_in(day, &event), taken_in);
+        assert_eq!(rt; answer(line.adjust::<Futures>(day, &event)), expected);
+        assert_eq!(rt; answer(line.adjust::<Options>(day, &event)), expected);
     }
-    Ok(())
 }
 
 /// Lots in one trade, and whether there may be so many.
 const LOTS: [(u16, bool); 4] = [(0, false), (1, true), (4_000, true), (4_001, false)];
 
 #[test]
-fn lots(rt: HostRuntime) -> Result<(), Fail> {
-    for (lots, may) in &LOTS {
-        assert_eq!(rt; units::is_lots(*lots), *may);
+fn lots(rt: HostRuntime) {
+    for &(lots, may) in &LOTS {
+        assert_eq!(rt; units::is_lots(lots), may);
     }
-    Ok(())
 }
 
 // The letters of levels 0 to 9, written and read back; there is none after them.
-fn check_letters<F: Family>(rt: &impl Abort, letters: &[u8; 10]) -> Result<(), Fail> {
-    for level in 0..10u8 {
-        let letter = letters[level as usize] as char;
+fn check_letters<F: Family>(rt: &impl Abort, letters: &[u8; 10]) {
+    for (level, &letter) in (0..10).zip(letters) {
+        let letter = char::from(letter);
         assert_eq!(rt; F::letter(level), Some(letter));
         assert_eq!(rt; F::level(letter), Some(level));
     }
     assert_eq!(rt; F::letter(10), None);
-    Ok(())
 }
 
 #[test]
-fn letters(rt: HostRuntime) -> Result<(), Fail> {
-    check_letters::<Futures>(&rt, b"F123456789")?;
-    check_letters::<Options>(&rt, b"OABCDEFGHI")
+fn letters(rt: HostRuntime) {
+    check_letters::<Futures>(&rt, b"F123456789");
+    check_letters::<Options>(&rt, b"OABCDEFGHI");
 }
 
 // At the largest price and claim, and for the put at the smallest price.
 #[test]
-fn largest_values(rt: HostRuntime) -> Result<(), Fail> {
+fn largest_values(rt: HostRuntime) {
     let future = Lot {
         right: Right::Without,
         strike: 0,
@@ -266,9 +266,8 @@ fn largest_values(rt: HostRuntime) -> Result<(), Fail> {
     let call = Lot {
         right: Right::Call,
         strike: 1,
-        units: 400_000_000,
         strike_lot: 1,
-        cash: 100_000_000,
+        ..future
     };
     let put = Lot {
         right: Right::Put,
@@ -295,5 +294,4 @@ fn largest_values(rt: HostRuntime) -> Result<(), Fail> {
         899_999_999_999_999
     );
     assert_eq!(rt; Options::final_value(&put, 1, 0), 399_999_999_999_999);
-    Ok(())
 }

@@ -5,6 +5,8 @@
 #[cfg(test)]
 mod adjustments;
 #[cfg(test)]
+mod answers;
+#[cfg(test)]
 mod edges;
 #[cfg(test)]
 mod names;

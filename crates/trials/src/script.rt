@@ -1,36 +1,115 @@
-//! Scripts: steps for a book of either family, each with the number of the refusal that must come.
+//! Scripts: steps for a book of either family, each with the answer that must come.
 use book::book::Book;
 use book::call::Call;
-use book::table::{Account, Place, Table};
+use book::table::Table;
+use std::fmt::Debug;
 use std::process::Abort;
-use std::test::Fail;
 use terms::claim::Claim;
-use terms::code::{Code, Name, Prefix};
+use terms::code::{Code, Name, Prefix, Series};
 use terms::family::Family;
 use terms::refusal::Refusal;
+use terms::right::Right;
 use terms::terms::Terms;
 
 /// 2,000 shares.
 pub(crate) const LOT: u32 = 20_000_000;
 
-/// How a script's names are written in one family: the letter of level 0, a letter of another
-/// level and one that the family has not; a right and strike that fit, and a pair that does not.
+/// A step is accepted, or refused with this number.
+pub(crate) type Answer = Result<(), u8>;
+
+/// How a script's names are written in one family.
 #[derive(Clone, Copy)]
-pub(crate) struct Style(u8, u8, u8, (u8, u32), (u8, u32));
+pub(crate) struct Style {
+    /// The letter of level 0.
+    standard: u8,
+    /// The letter of another level.
+    adjusted: u8,
+    /// A letter that the family has not.
+    foreign: u8,
+    /// A right and strike that fit.
+    fit: (u8, u32),
+    /// What that right's number stands for.
+    right: Right,
+    /// A right and strike that do not fit.
+    misfit: (u8, u32),
+}
 
 pub(crate) const FUTURES: [Style; 4] = [
-    Style(b'F', b'1', b'O', (0, 0), (1, 5_000)),
-    Style(b'F', b'9', b'A', (0, 0), (0, 1)),
-    Style(b'F', b'5', b'0', (0, 0), (2, 0)),
-    Style(b'F', b'2', b'f', (0, 0), (3, 0)),
+    Style {
+        standard: b'F',
+        adjusted: b'1',
+        foreign: b'O',
+        fit: (0, 0),
+        right: Right::Without,
+        misfit: (1, 5_000),
+    },
+    Style {
+        standard: b'F',
+        adjusted: b'9',
+        foreign: b'A',
+        fit: (0, 0),
+        right: Right::Without,
+        misfit: (0, 1),
+    },
+    Style {
+        standard: b'F',
+        adjusted: b'5',
+        foreign: b'0',
+        fit: (0, 0),
+        right: Right::Without,
+        misfit: (2, 0),
+    },
+    Style {
+        standard: b'F',
+        adjusted: b'2',
+        foreign: b'f',
+        fit: (0, 0),
+        right: Right::Without,
+        misfit: (3, 0),
+    },
 ];
 
 pub(crate) const OPTIONS: [Style; 5] = [
-    Style(b'O', b'A', b'1', (1, 5_000), (0, 0)),
-    Style(b'O', b'I', b'J', (2, 5_000), (0, 5_000)),
-    Style(b'O', b'F', b'P', (1, 1), (1, 0)),
-    Style(b'O', b'B', b'0', (2, 1_000_000), (2, 1_000_001)),
-    Style(b'O', b'H', b'o', (2, 5_001), (3, 5_000)),
+    Style {
+        standard: b'O',
+        adjusted: b'A',
+        foreign: b'1',
+        fit: (1, 5_000),
+        right: Right::Call,
+        misfit: (0, 0),
+    },
+    Style {
+        standard: b'O',
+        adjusted: b'I',
+        foreign: b'J',
+        fit: (2, 5_000),
+        right: Right::Put,
+        misfit: (0, 5_000),
+    },
+    Style {
+        standard: b'O',
+        adjusted: b'F',
+        foreign: b'P',
+        fit: (1, 1),
+        right: Right::Call,
+        misfit: (1, 0),
+    },
+    Style {
+        standard: b'O',
+        adjusted: b'B',
+        foreign: b'0',
+        fit: (2, 1_000_000),
+        right: Right::Put,
+        misfit: (2, 1_000_001),
+    },
+    Style {
+        standard: b'O',
+        adjusted: b'H',
+        foreign: b'o',
+        fit: (2, 5_001),
+        right: Right::Put,
+        misfit: (3, 5_000),
+    },
 ];
 
 /// A name: its prefix, followed by `0` for the standard letter, `1` for a letter of another level
@@ -65,20 +144,18 @@ pub(crate) enum Step {
 impl Label {
     fn name(self, style: &Style) -> Name {
         let (text, expiry, (right, strike)) = match self {
-            Label::Fit(text, expiry) => (text, expiry, style.3),
-            Label::Misfit(text, expiry) => (text, expiry, style.4),
+            Label::Fit(text, expiry) => (text, expiry, style.fit),
+            Label::Misfit(text, expiry) => (text, expiry, style.misfit),
         };
-        let letter = match text[2] {
-            b'0' => style.0,
-            b'1' => style.1,
-            _ => style.2,
+        let [first, second, kind] = *text;
+        let letter = match kind {
+            b'0' => style.standard,
+            b'1' => style.adjusted,
+            _ => style.foreign,
         };
         Name {
             code: Code {
-                prefix: Prefix {
-                    first: text[0],
-                    second: text[1],
-                },
+                prefix: Prefix { first, second },
                 letter,
             },
             expiry,
@@ -88,72 +165,60 @@ impl Label {
     }
 }
 
-fn number<T: Drop>(answer: Result<T, Refusal>) -> u8 {
-    match answer {
-        Ok(_) => 0,
-        Err(refusal) => refusal.number(),
-    }
-}
-
-fn is_same_account(a: &Account, b: &Account) -> bool {
-    a.number == b.number && a.equity == b.equity && a.lots == b.lots
-}
-
-fn is_same_terms(a: &Terms, b: &Terms) -> bool {
-    a.series == b.series
-        && (a.stock, a.units, a.strike_lot, a.cash) == (b.stock, b.units, b.strike_lot, b.cash)
-        && matches!((a.claim, b.claim), (Claim::Absent, Claim::Absent))
-}
-
-fn is_same_place(a: &Place, b: &Place) -> bool {
-    match (a, b) {
-        (Place::Free, Place::Free) => true,
-        (Place::Taken(c), Place::Taken(d)) => c.carry == d.carry
-            && is_same_terms(&c.terms, &d.terms),
-        _ => false,
-    }
-}
-
-fn is_same(a: &Table, b: &Table) -> bool {
-    for i in 0..64 {
-        if !is_same_account(&a.accounts[i], &b.accounts[i]) {
-            return false;
+impl Style {
+    // The terms of a line as it was listed.
+    fn listed(&self, name: Name, stock: u32, units: u32) -> Terms {
+        Terms {
+            series: Series {
+                prefix: name.code.prefix,
+                level: 0,
+                expiry: name.expiry,
+                right: self.right,
+                strike: name.strike,
+            },
+            stock,
+            units,
+            strike_lot: units,
+            cash: 0,
+            claim: Claim::Absent,
         }
     }
-    for i in 0..48 {
-        if !is_same_place(&a.lines[i], &b.lines[i]) {
-            return false;
-        }
-    }
-    a.count == b.count && a.day == b.day
 }
 
-// All equities together.
-fn total(table: &Table) -> i64 {
-    let mut sum = 0i64;
-    for i in 0..64 {
-        sum = sum.wrapping_add(table.accounts[i].equity);
-    }
-    sum
+// All equities together. 64 of them cannot wrap.
+fn total(table: &Table) -> i128 {
+    let equities = table
+        .accounts
+        .iter()
+        .map(|account| i128::from(account.equity));
+    equities.fold(0, i128::wrapping_add)
 }
 
-// The number of the refusal, 0 where the call is accepted. A refused call must leave all as it was.
-fn made<F: Family>(rt: &impl Abort, book: &mut Book<F>, call: Call) -> Result<u8, Fail> {
+// Makes a call. One that is refused must leave all as it was.
+fn make<F: Family>(rt: &impl Abort, book: &mut Book<F>, call: Call) -> Answer {
     let before = book.table;
-    let refusal = number(book.make(call));
-    assert!(rt; refusal == 0 || is_same(&before, &book.table));
-    Ok(refusal)
+    let answer = book.make(call).map_err(Refusal::number);
+    if answer.is_err() {
+        assert_eq!(rt; book.table, before);
+    }
+    answer
 }
 
-fn take<F: Family>(
+// Looks at the answer to a question, if there is one.
+fn check<T: PartialEq + Debug + Drop>(
     rt: &impl Abort,
-    book: &mut Book<F>,
-    style: &Style,
-    step: Step,
-) -> Result<u8, Fail> {
+    answer: Result<T, Refusal>,
+    expected: T,
+) -> Answer {
+    let found = answer.map_err(Refusal::number)?;
+    assert_eq!(rt; found, expected);
+    Ok(())
+}
+
+fn take<F: Family>(rt: &impl Abort, book: &mut Book<F>, style: &Style, step: Step) -> Answer {
     match step {
-        Step::Opens(day, account) => made(rt, book, Call::Opening { day, account }),
-        Step::Lists(day, label, stock, units, price) => made(
+        Step::Opens(day, account) => make(rt, book, Call::Opening { day, account }),
+        Step::Lists(day, label, stock, units, price) => make(
             rt,
             book,
             Call::Listing {
@@ -164,7 +229,7 @@ fn take<F: Family>(
                 price,
             },
         ),
-        Step::Trades(day, label, buyer, seller, price, lots) => made(
+        Step::Trades(day, label, buyer, seller, price, lots) => make(
             rt,
             book,
             Call::Trade {
@@ -176,62 +241,17 @@ fn take<F: Family>(
                 lots,
             },
         ),
-        Step::Marks(day, label, price) => made(
-            rt,
-            book,
-            Call::Mark {
-                day,
-                name: label.name(style),
-                price,
-            },
-        ),
-        _ => ask(rt, book, style, step),
-    }
-}
-
-fn ask<F: Family>(rt: &impl Abort, book: &Book<F>, style: &Style, step: Step) -> Result<u8, Fail> {
-    match step {
+        Step::Marks(day, label, price) => {
+            let name = label.name(style);
+            make(rt, book, Call::Mark { day, name, price })
+        }
         Step::Terms(label, stock, units) => {
             let name = label.name(style);
-            let answer = book.terms(name);
-            if let Ok(found) = answer {
-                let series = found.series;
-                assert_eq!(rt;
-                    (series.prefix.first, series.prefix.second),
-                    (name.code.prefix.first, name.code.prefix.second)
-                );
-                assert_eq!(rt; (series.level, series.expiry), (0, name.expiry));
-                assert_eq!(rt;
-                    (series.right.number(), series.strike),
-                    (name.right, name.strike)
-                );
-                assert_eq!(rt;
-                    (found.stock, found.units, found.strike_lot, found.cash),
-                    (stock, units, units, 0)
-                );
-                assert!(rt; matches!(found.claim, Claim::Absent));
-            }
-            Ok(number(answer))
+            check(rt, book.terms(name), style.listed(name, stock, units))
         }
-        Step::Lots(account, label, lots) => {
-            let answer = book.lots(account, label.name(style));
-            if let Ok(found) = answer {
-                assert_eq!(rt; found, lots);
-            }
-            Ok(number(answer))
-        }
-        Step::Equity(account, equity) => {
-            let answer = book.equity(account);
-            if let Ok(found) = answer {
-                assert_eq!(rt; found, equity);
-            }
-            Ok(number(answer))
-        }
-        Step::Day(day) => {
-            assert_eq!(rt; book.table.day, day);
-            Ok(0)
-        }
-        _ => Err(Fail::new("a call")),
+        Step::Lots(account, label, lots) => check(rt, book.lots(account, label.name(style)), lots),
+        Step::Equity(account, equity) => check(rt, book.equity(account), equity),
+        Step::Day(day) => check(rt, Ok(book.table.day), day),
     }
 }
 
@@ -240,22 +260,16 @@ pub(crate) fn follow<F: Family>(
     rt: &impl Abort,
     book: &mut Book<F>,
     style: &Style,
-    script: &[(Step, u8)],
-) -> Result<(), Fail> {
-    for i in 0..script.len() {
-        let (step, expected) = script[i];
-        assert_eq!(rt; (i, take(rt, book, style, step)?), (i, expected));
+    script: &[(Step, Answer)],
+) {
+    for (i, &(step, expected)) in script.iter().enumerate() {
+        assert_eq!(rt; take(rt, book, style, step), expected, "step {i}");
     }
     assert_eq!(rt; total(&book.table), 0);
-    Ok(())
 }
 
 /// Goes through a script with an empty book.
-pub(crate) fn play<F: Family>(
-    rt: &impl Abort,
-    style: &Style,
-    script: &[(Step, u8)],
-) -> Result<(), Fail> {
+pub(crate) fn play<F: Family>(rt: &impl Abort, style: &Style, script: &[(Step, Answer)]) {
     let mut book = Book::<F>::new();
-    follow(rt, &mut book, style, script)
+    follow(rt, &mut book, style, script);
 }
