@@ -31,7 +31,9 @@ impl Entries {
         requires { all_of row_fits accounts.now ≡ true }
         ensures { result ≡ any_of (credit_past self.now.dollars) accounts.now }
     {
-        accounts.iter().any(|account| is_too_much(self.equity_of(account)))
+        accounts
+            .iter()
+            .any(|account| is_too_much(self.equity_of(account)))
     }
 
     /// Each account's lots are credited.

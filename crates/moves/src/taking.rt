@@ -76,8 +76,8 @@ impl Onset {
 
 // What the event finds in one place.
 impl Onset {
-    /// Whether it takes in the line in the place.
-    pub fn takes_in(&self, place: &Place) -> bool
+    // Whether it takes in the line in the place.
+    fn takes_in(&self, place: &Place) -> bool
         ensures { result ≡ taken_in self.now.day self.now.event place.now }
     {
         matches!(place, Place::Taken(line) if line.terms.is_taken_in(self.day, &self.event))
@@ -136,9 +136,10 @@ impl Onset {
         ensures { result ≡ level_passes F.Family.answers self.now.day self.now.event place.now }
     {
         match place {
-            Place::Free => false,
-            Place::Taken(line) => line.terms.is_taken_in(self.day, &self.event)
-                && line.terms.after::<F>(&self.event).terms.series.level > LAST_LEVEL,
+            Place::Taken(line) if line.terms.is_taken_in(self.day, &self.event) => {
+                line.terms.after::<F>(&self.event).terms.series.level > LAST_LEVEL
+            }
+            _ => false,
         }
     }
 
@@ -147,9 +148,11 @@ impl Onset {
         ensures { result ≡ lot_leaves F.Family.answers self.now.day self.now.event place.now }
     {
         match place {
-            Place::Free => false,
-            Place::Taken(line) => line.terms.is_taken_in(self.day, &self.event)
-                && line.terms.after::<F>(&self.event).terms.has_misfit_lot::<F>(),
+            Place::Taken(line) if line.terms.is_taken_in(self.day, &self.event) => {
+                let after = line.terms.after::<F>(&self.event);
+                after.terms.has_misfit_lot::<F>()
+            }
+            _ => false,
         }
     }
 

@@ -8,6 +8,6 @@ use Rattle.lookup.proofs.find.Goals as goal
 pub returns-clause-none : goal.returns-clause-none
 returns-clause-none g c =
     let found : c.position.result ≡ sought (g.R.Keyed.has c.args.key.now) c.args.rows.now =
-        position_from_yields_List (g.R.Keyed.has c.args.key.now) _ _ c.position.result c.position.ensures.ran
-        (YieldsList-from_slice _ c.iter.ensures.rest) (λ x b q k. search rules) in
+    position_from_yields_List (g.R.Keyed.has c.args.key.now) _ _ c.position.result c.position.ensures.ran
+    (YieldsList-from_slice _ c.iter.ensures.rest) (λ x b q k. search rules) in
     λ none. none_any (g.R.Keyed.has c.args.key.now) c.args.rows.now (sym none ∙ found)

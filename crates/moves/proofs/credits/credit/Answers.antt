@@ -1,4 +1,4 @@
-use Rattle.std.proofs.Common.{◌≡◌, ℕ, ◌+◌, ◌*◌, ◌<◌, ◌≤◌, [], ◌∷◌, ◌++◌, length, get_or, drop, ℤ, pos, ◌+ℤ◌, ◌*ℤ◌, nat_abs, sym, ap, ◌∙◌, subst, ap₂, arith, w32, w64, SFits, to_z, of_z, rules}
+use Rattle.std.proofs.Common.{◌≡◌, ℕ, ◌+◌, ◌*◌, ◌≤◌, [], ◌∷◌, ◌++◌, length, get_or, drop, ℤ, pos, ◌+ℤ◌, ◌*ℤ◌, nat_abs, sym, ap, ◌∙◌, subst, ap₂, w32, w64, SFits, to_z, of_z, rules}
 use Rattle.std.proofs.lemmas.Int.{to_z-of_z}
 use Rattle.std.proofs.lemmas.List.{length-append}
 use Rattle.std.proofs.lemmas.Slice.Zip.{zip_turn}
@@ -19,14 +19,15 @@ loop-n-preserved c =
     let held : to_z w32 (of_z w32 c.in-Some.n.now) ≡ n = ap (λ (z : ℤ). to_z w32 (of_z w32 z)) (turn.2 (pos 0)) ∙ to_z-of_z w32 n x in
     let m : SFits w64 c.moved-sum.result = record { sfits = c.moved-sum.type_inv } in
     let e : to_z w64 (of_z w64 c.moved-sum.result) ≡ sum +ℤ part lots dollars j turn.0 turn.1 =
-        to_z-of_z w64 c.moved-sum.result m
-        ∙ (c.moved-sum.ensures
-        ∙ ap (λ (z : ℤ). sum +ℤ z)
-        (ap₂ (λ (z : ℤ) (d : ℕ). z *ℤ change 0 (d * 1000000)) held (c.from.ensures ∙ turn.3 0))) in
+    to_z-of_z w64 c.moved-sum.result m
+    ∙ (c.moved-sum.ensures
+    ∙ ap (λ (z : ℤ). sum +ℤ z)
+    (ap₂ (λ (z : ℤ) (d : ℕ). z *ℤ change 0 (d * 1000000)) held (c.from.ensures ∙ turn.3 0))) in
     let more : length (c.loop-n.yielded ++ (c.in-Some.n, c.in-Some.booked) ∷ []) ≡ j + 1 = length-append c.loop-n.yielded ((c.in-Some.n, c.in-Some.booked) ∷ []) in
     let s = to_z w64 (of_z w64 c.moved-sum.result) in
     let kept =
-        subst (λ (k : ℕ). (s +ℤ credit (drop k lots) (drop k dollars) ≡ credit lots dollars) × (nat_abs s ≤ k * 80000000000000000)) (sym more)
-        (credit_more lots dollars j turn.0 turn.1 sum s c.loop-n.invariant.1 e,
-        sum_in j sum (part lots dollars j turn.0 turn.1) s c.loop-n.invariant.2 (part_in lots dollars j turn.0 turn.1 c.requires.few c.requires.small) e) in
+    subst (λ (k : ℕ). (s +ℤ credit (drop k lots) (drop k dollars) ≡ credit lots dollars) × (nat_abs s ≤ k * 80000000000000000)) (sym more) (
+      credit_more lots dollars j turn.0 turn.1 sum s c.loop-n.invariant.1 e,
+      sum_in j sum (part lots dollars j turn.0 turn.1) s c.loop-n.invariant.2 (part_in lots dollars j turn.0 turn.1 c.requires.few c.requires.small) e,
+    ) in
     (((tt, tt), tt), kept.0, kept.1)
