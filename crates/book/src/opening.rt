@@ -6,7 +6,7 @@ ghost use Rattle.rows.specs.Calls.{empty, settled};
 
 use crate::book::Book;
 use lookup::find;
-use rows::table::{Account, Place, Table};
+use rows::table::{Account, PLACES, Place, ROWS, Table};
 use std::marker::PhantomData;
 use terms::family::Family;
 use terms::refusal::Refusal;
@@ -16,7 +16,7 @@ use terms::units::Day;
 const UNUSED: Account = Account {
     number: 0,
     equity: 0,
-    lots: [0; 48],
+    lots: [0; PLACES],
 };
 
 impl<F: Family> Book<F> {
@@ -26,8 +26,8 @@ impl<F: Family> Book<F> {
     {
         Book {
             table: Table {
-                lines: [Place::Free; 48],
-                accounts: [UNUSED; 64],
+                lines: [Place::Free; PLACES],
+                accounts: [UNUSED; ROWS],
                 count: 0,
                 day: 0,
             },
@@ -49,7 +49,7 @@ impl<F: Family> Book<F> {
         if find(&self.table.accounts, &account).is_some() {
             return Err(Refusal::AccountOpen);
         }
-        if self.table.count >= 64 {
+        if self.table.count >= ROWS {
             return Err(Refusal::AccountsFull);
         }
         self.table.accounts[self.table.count] = Account {

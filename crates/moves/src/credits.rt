@@ -8,18 +8,18 @@ ghost use Rattle.rows.specs.Adjustment.{entry, credit as credit_of, credited, cr
 use crate::entries::Entries;
 use crate::onset::Onset;
 use rows::account::{is_too_much, moved};
-use rows::table::{Account, Place};
+use rows::table::{Account, PLACES, Place};
 use sweep::{Change, change_all};
 use terms::family::Family;
 use terms::units::Dollars;
 
 impl Entries {
     /// What the event books to each lot of the lines that it takes in.
-    pub fn of<F: Family>(lines: &[Place; 48], onset: &Onset) -> Entries
+    pub fn of<F: Family>(lines: &[Place; PLACES], onset: &Onset) -> Entries
         requires { all_of line_fits lines.now ≡ true }
         ensures { result.dollars ≡ map (entry F.Family.answers onset.now.day onset.now.event) lines.now }
     {
-        let mut dollars = [0; 48];
+        let mut dollars = [0; PLACES];
         for (j, place) in lines.iter().enumerate() {
             dollars[j] = booked::<F>(place, onset);
         }

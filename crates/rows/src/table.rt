@@ -21,7 +21,7 @@ pub struct Line {
 pub struct Account {
     pub number: u32,
     pub equity: i64,
-    pub lots: [i32; 48],
+    pub lots: [i32; PLACES],
 }
 
 /// A place for a live line.
@@ -34,8 +34,8 @@ pub enum Place {
 /// A book's rows, the number of open accounts and the day of the last accepted call.
 #[derive(Clone, Copy, PartialEq, Eq, Debug)]
 pub struct Table {
-    pub lines: [Place; 48],
-    pub accounts: [Account; 64],
+    pub lines: [Place; PLACES],
+    pub accounts: [Account; ROWS],
     pub count: usize,
     pub day: Day,
 }
