@@ -14,17 +14,6 @@ use Rattle.rows.proofs.Priced.{lot_priced}
 use Rattle.rows.proofs.Sound.{carry_at, closed_fit}
 use Rattle.book.proofs.book.Book.close_line.Goals as goal
 
-pub dollars_of-dollars-requires : goal.dollars_of-dollars-requires
-dollars_of-dollars-requires g c = (subst (λ (l : Line). claim_fits l.terms.claim ≡ true) (sym c.line_at-line.ensures) c.requires.claimed, c.requires.closes)
-
-pub final_value-requires : goal.final_value-requires
-final_value-requires g c =
-    let claimed = subst (λ (l : Line). claim_fits l.terms.claim ≡ true) (sym c.line_at-line.ensures) c.requires.claimed in
-    record {
-      within = lot_priced g.F.Family.answers c.line_at-line.result (get_or c.args.self.now.table.lines c.args.place Free) c.lot.result c.args.price c.lot.ensures c.line_at-line.ensures c.requires.priced;
-      claimed = ap is_claim c.dollars_of-dollars.ensures ∙ le-leb _ largest_claim (dollars_in c.args.close c.line_at-line.result.terms.claim claimed c.requires.closes);
-    }
-
 pub invariant_of-gain : goal.invariant_of-gain
 invariant_of-gain g c =
     let claimed = subst (λ (l : Line). claim_fits l.terms.claim ≡ true) (sym c.line_at-line.ensures) c.requires.claimed in

@@ -6,12 +6,6 @@ use Rattle.rows.proofs.Inputs.{fixing_inside}
 use Rattle.moves.proofs.Moved.{fixed_fit}
 use Rattle.book.proofs.book.Book.fixing.Goals as goal
 
-pub invariant_of-fix : goal.invariant_of-fix
-invariant_of-fix g c =
-    record {
-      most = fixing_inside c.args.day c.args.stock c.args.deadline c.args.close (sym c.if-is_fixing_outside.ensures);
-    }
-
 pub invariant_of-self : goal.invariant_of-self
 invariant_of-self g c =
     let a = c.args in record {
