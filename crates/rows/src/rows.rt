@@ -23,7 +23,7 @@ pub fn is_same_series(a: &Series, b: &Series) -> bool
     a.expiry == b.expiry
         && is_same_prefix(&a.prefix, &b.prefix)
         && a.level == b.level
-        && a.right.number() == b.right.number()
+        && u8::from(a.right) == u8::from(b.right)
         && a.strike == b.strike
 }
 

@@ -15,7 +15,7 @@ impl Code {
         ensures { result ≡ code_level F.Family.answers self.now }
     {
         if self.prefix.is_well_formed() {
-            F::level(self.letter as char)
+            F::level(char::from(self.letter))
         } else {
             None
         }
@@ -28,15 +28,11 @@ impl Name {
         ensures refusal { answer result ≡ first (name_refusals F.Family.answers self.now) }
         ensures value { Accepted result (λ s. Some s ≡ series_named F.Family.answers self.now) }
     {
-        let Some(level) = self.code.level::<F>() else {
-            return Err(Refusal::Malformed);
-        };
+        let level = self.code.level::<F>().ok_or(Refusal::Malformed)?;
         if !units::is_day(self.expiry) {
             return Err(Refusal::OutsideUnits);
         }
-        let Some(right) = Right::from_number(self.right) else {
-            return Err(Refusal::Misfit);
-        };
+        let right = Right::try_from(self.right)?;
         if !F::fits(right, self.strike) {
             return Err(Refusal::Misfit);
         }
