@@ -8,7 +8,8 @@ use crate::refusal::Refusal;
 use crate::units;
 use crate::units::{Billionths, CashPerShare, Cents, Day};
 
-/// The right to subscribe new shares. A part that is 0 is absent.
+/// The right to subscribe new shares. A part that is 0 is absent. (It is no `Option`, since a call
+/// may give an event with a part of it, which is refused.)
 #[derive(Clone, Copy, PartialEq, Eq, Debug)]
 pub struct Rights {
     pub rate: Billionths,
@@ -16,7 +17,8 @@ pub struct Rights {
     pub deadline: Day,
 }
 
-/// The stock that takes the place of the old one, with its prefix. A part that is 0 is absent.
+/// The stock that takes the place of the old one, with its prefix. A part that is 0 is absent, and
+/// one may be given without the other, as with rights.
 #[derive(Clone, Copy, PartialEq, Eq, Debug)]
 pub struct Successor {
     pub stock: u32,

@@ -38,6 +38,8 @@ pub trait Family {
         ensures kept { result.0 ≡ answers.kept amount }
         ensures booked { result.1 ≡ answers.booked amount };
 
+    // (A lot and a price stay apart: a struct that holds `priced` of both would have the family in its
+    // type, and each is made for one call.)
     fn trade_value(lot: &Lot, price: Cents) -> Micros
         requires { priced answers lot.now price ≡ true }
         ensures { result ≡ answers.trade lot.now price };
@@ -52,7 +54,7 @@ pub trait Family {
         requires claimed { is_claim dollars ≡ true }
         ensures { result ≡ answers.final lot.now price dollars };
 
-    // The constants are what the answers say.
+    // Each constant is what the answers say.
     ghost largest_is: { LARGEST_LOT ≡ answers.largest };
 
     ghost standard_is: { Some STANDARD ≡ answers.letter 0 };
