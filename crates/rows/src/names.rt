@@ -26,9 +26,9 @@ pub fn is_malformed<F: Family>(name: &Name) -> bool
 pub fn is_misfit<F: Family>(name: &Name) -> bool
     ensures { result ≡ misfit F.Family.answers name.now }
 {
-    match Right::from_number(name.right) {
-        Some(right) => !F::fits(right, name.strike),
-        None => true,
+    match Right::try_from(name.right) {
+        Ok(right) => !F::fits(right, name.strike),
+        Err(_) => true,
     }
 }
 
@@ -36,8 +36,8 @@ pub fn is_misfit<F: Family>(name: &Name) -> bool
 pub fn series_of<F: Family>(name: &Name) -> Series
     ensures { result ≡ series_of F.Family.answers name.now }
 {
-    match (name.code.level::<F>(), Right::from_number(name.right)) {
-        (Some(level), Some(right)) => {
+    match (name.code.level::<F>(), Right::try_from(name.right)) {
+        (Some(level), Ok(right)) => {
             Series {
                 prefix: name.code.prefix,
                 level,

@@ -1,5 +1,4 @@
 pub mod Refusals
 pub mod Bounds
 pub mod WorthKept
-pub mod Whole
 pub mod Within

@@ -1,50 +1,32 @@
 -- The worth of a lot is kept.
-use Rattle.std.proofs.Common.{◌≡◌, ℕ, ◌+◌, ◌-◌, ◌*◌, ◌/◌, ◌%◌, ◌<◌, ◌≤◌, not, ◌&&◌, leb, [], ◌∷◌, sym, ap, ◌∙◌, mod-lt, mul_assoc, mul_comm, mul-le-mul_left, mul-add, arith}
+use Rattle.std.proofs.Common.{◌≡◌, ℕ, ◌+◌, ◌-◌, ◌*◌, ◌/◌, ◌%◌, ◌<◌, ◌≤◌, sym, ap, mod-lt, mul-le-mul_left, arith}
 use native.Mathlib.Nat.{div-add-mod}
-use Rattle.std.proofs.lemmas.Bool.{and_parts, or_parts, leb-false, not-false}
-use Rattle.terms.specs.Units.{largest_price, largest_ratio, is_price, is_cash, is_ratio}
+use Rattle.std.proofs.lemmas.Bool.Decides.{nat_tests}
 use Rattle.terms.specs.Refusals.{first}
-use Rattle.terms.specs.Reference.{without_cash, reference, no_reference, reference_refusals}
+use Rattle.terms.specs.Reference.{without_cash, reference, reference_refusals}
 use Rattle.terms.specs.Family.{Answers, Law}
 use Rattle.terms.specs.Adjust.{cash_amount, next_units, adjusted}
 use Rattle.terms.specs.Worth.{distance, rounding_bound, WorthKept}
 use Rattle.terms.specs.declared.event.Event.{Event}
 use Rattle.terms.specs.declared.terms.Terms.{Terms}
-use Rattle.terms.specs.Tests.{between_parts}
-use Rattle.terms.proofs.Refusals.{passed}
-
--- a product with a multiple
-out : (q k x : ℕ) → q * (k * x) ≡ k * (q * x)
-out q k x = sym (mul_assoc q k x) ∙ ap (λ y. y * x) (mul_comm q k) ∙ mul_assoc k q x
 
 -- the price less the cash, by the units
 less_cash : (q p c n : ℕ) → n + 100000 * c ≡ 1000000000 * p → 1000000000 * (p * q) ≡ q * n + 100000 * (q * c)
-less_cash q p c n h =
-    ap (λ x. 1000000000 * x) (mul_comm p q)
-    ∙ sym (out q 1000000000 p)
-    ∙ ap (λ x. q * x) (sym h)
-    ∙ mul-add q n (100000 * c)
-    ∙ ap (λ x. q * n + x) (out q 100000 c)
+less_cash q p c n h = omega (arith, ap (λ x. q * x) h)
 
 -- the rounding of the reference price, by the units
 rounded : (q n d r s : ℕ) → 2 * d * r + s ≡ 2 * n + d → 2 * (q * n) + q * d ≡ 2 * (r * (q * d)) + q * s
-rounded q n d r s h =
-    let left : q * (2 * n + d) ≡ 2 * (q * n) + q * d = mul-add q (2 * n) d ∙ ap (λ x. x + q * d) (out q 2 n) in
-    let right : q * (2 * d * r + s) ≡ 2 * (r * (q * d)) + q * s =
-    mul-add q (2 * d * r) s
-    ∙ ap (λ x. x + q * s)
-    (ap (λ x. q * x) (mul_assoc 2 d r) ∙ out q 2 (d * r) ∙ ap (λ x. 2 * x) (ap (λ x. q * x) (mul_comm d r) ∙ out q r d)) in
-    sym left ∙ ap (λ x. q * x) (sym h) ∙ right
+rounded q n d r s h = omega (arith, ap (λ x. q * x) h)
 
 -- the dropped part of the new units, by the reference price
 dropped : (r m q' t : ℕ) → m ≡ 1000000000 * q' + t → r * m ≡ 1000000000 * (r * q') + r * t
-dropped r m q' t h = ap (λ x. r * x) h ∙ mul-add r (1000000000 * q') t ∙ ap (λ x. x + r * t) (out r 1000000000 q')
+dropped r m q' t h = omega (arith, ap (λ x. r * x) h)
 
 below : (r t : ℕ) → t < 1000000000 → r * t + r ≤ 1000000000 * r
-below r t h = let k = mul-le-mul_left r h in omega (arith, k, mul-add r t 1, mul_comm r 1000000000)
+below r t h = omega (arith, mul-le-mul_left r h)
 
 twice : (q s d : ℕ) → s < 2 * d → q * s ≤ 2 * (q * d)
-twice q s d h = let k : q * s ≤ q * (2 * d) = mul-le-mul_left q (omega arith) in omega (arith, k, out q 2 d)
+twice q s d h = let k : q * s ≤ q * (2 * d) = mul-le-mul_left q (omega arith) in omega arith
 
 -- the products of the proof, as plain numbers, are related by what the divisions leave:
 -- 10^9 worth_before - 10^9 worth_after = q (N - R r) + 10^5 u + R t
@@ -104,18 +86,7 @@ priced :
     (p c d : ℕ) →
     first (reference_refusals p c d) ≡ 0 →
     (c ≤ p * 10000) × (1 ≤ d) × (1 ≤ reference p c d)
-priced p c d h =
-    let given = is_price p && (is_cash c && is_ratio d) in
-    let inside = passed 2 (not given) ((7, no_reference p c d) ∷ []) (omega arith) h in
-    let found = passed 7 (no_reference p c d) [] (omega arith) inside.1 in
-    let units = and_parts (is_price p) (is_cash c && is_ratio d) (not-false given inside.0) in
-    let ratio = and_parts (is_cash c) (is_ratio d) units.1 in
-    let either = or_parts (leb (p * 10000) c) (not (is_price (reference p c d))) found.0 in
-    let above : c < p * 10000 = leb-false (p * 10000) c either.0 in (
-      omega arith,
-      (between_parts 1 largest_ratio d ratio.1).0,
-      (between_parts 1 largest_price (reference p c d) (not-false (is_price (reference p c d)) either.1)).0,
-    )
+priced p c d h = grind (arith, nat_tests)
 
 pub worth_kept : (a : Answers) → Law a → (e : Event) (t : Terms) → WorthKept e t (adjusted a e t)
 worth_kept a law e t price h =

@@ -80,9 +80,9 @@ impl Terms {
             series: self.next_series::<F>(event),
             stock: self.next_stock(event),
             units,
-            strike_lot: self.strike_lot,
             cash: self.cash + kept,
             claim: self.next_claim(event),
+            ..*self
         };
         Adjusted { terms, booked }
     }
@@ -91,7 +91,7 @@ impl Terms {
     pub fn has_misfit_lot<F: Family>(&self) -> bool
         ensures { result ≡ lot_misfits F.Family.answers self.now }
     {
-        self.units < 1 || self.units > F::lot_limit() || self.cash > LARGEST_LOT_CASH
+        !(1..=F::lot_limit()).contains(&self.units) || self.cash > LARGEST_LOT_CASH
     }
 
     fn next_series<F: Family>(&self, event: &Event) -> Series
@@ -112,9 +112,7 @@ impl Terms {
         Series {
             prefix,
             level,
-            expiry: old.expiry,
-            right: old.right,
-            strike: old.strike,
+            ..old
         }
     }
 
@@ -149,12 +147,8 @@ impl Terms {
     {
         match self.claim {
             Claim::Absent => false,
-            Claim::Open {
-                units: _,
-                price: _,
-                deadline: _,
-            } => { !event.rights.are_absent() || !event.successor.is_absent() }
-            Claim::Fixed { dollars: _ } => !event.rights.are_absent(),
+            Claim::Open { .. } => !event.rights.are_absent() || !event.successor.is_absent(),
+            Claim::Fixed { .. } => !event.rights.are_absent(),
         }
     }
 }
@@ -164,7 +158,7 @@ fn scaled(units: ShareUnits, billionths: Billionths) -> ShareUnits
     requires { (units ≤ 400000000) × (billionths ≤ 10000000000) }
     ensures { result ≡ units * billionths / 1000000000 }
 {
-    (units as u64 * billionths / 1_000_000_000) as ShareUnits
+    (u64::from(units) * billionths / 1_000_000_000) as ShareUnits
 }
 
 // The dollars paid on so many share units, the fraction dropped.
@@ -172,5 +166,5 @@ fn cash_amount(units: ShareUnits, cash: CashPerShare) -> Dollars
     ensures value { result ≡ units * cash / 10000000000 }
     ensures most { result ≤ 1844674407 }
 {
-    (units as u64 * cash as u64 / 10_000_000_000) as Dollars
+    (u64::from(units) * u64::from(cash) / 10_000_000_000) as Dollars
 }

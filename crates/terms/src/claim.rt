@@ -25,12 +25,8 @@ impl Claim {
     {
         match *self {
             Claim::Absent => 0,
-            Claim::Open {
-                units,
-                price,
-                deadline: _,
-            } => subscribed(units, price, close),
-            Claim::Fixed { dollars } => dollars as u64,
+            Claim::Open { units, price, .. } => subscribed(units, price, close),
+            Claim::Fixed { dollars } => u64::from(dollars),
         }
     }
 
@@ -38,28 +34,14 @@ impl Claim {
     pub fn awaits(&self, payment: Day) -> bool
         ensures { result ≡ awaits payment self.now }
     {
-        match *self {
-            Claim::Open {
-                units: _,
-                price: _,
-                deadline,
-            } => deadline == payment,
-            Claim::Absent | Claim::Fixed { dollars: _ } => false,
-        }
+        matches!(*self, Claim::Open { deadline, .. } if deadline == payment)
     }
 
     /// Whether the claim is open though its deadline is not later than the expiry.
     pub fn is_unfixed(&self, expiry: Day) -> bool
         ensures { result ≡ unfixed expiry self.now }
     {
-        match *self {
-            Claim::Open {
-                units: _,
-                price: _,
-                deadline,
-            } => deadline <= expiry,
-            Claim::Absent | Claim::Fixed { dollars: _ } => false,
-        }
+        matches!(*self, Claim::Open { deadline, .. } if deadline <= expiry)
     }
 }
 
@@ -67,5 +49,5 @@ impl Claim {
 fn subscribed(units: ShareUnits, price: Cents, close: Cents) -> u64
     ensures { result ≡ subscription_dollars close units price }
 {
-    close.saturating_sub(price) as u64 * units as u64 / 1_000_000
+    u64::from(close.saturating_sub(price)) * u64::from(units) / 1_000_000
 }

@@ -57,20 +57,20 @@ impl Prefix {
     pub(crate) fn is_absent(&self) -> bool
         ensures { result ≡ no_prefix self.now }
     {
-        self.first == 0 && self.second == 0
+        *self == Prefix::NONE
     }
 }
 
 fn is_capital(byte: u8) -> bool
     ensures { result ≡ is_capital byte }
 {
-    b'A' <= byte && byte <= b'Z'
+    byte.is_ascii_uppercase()
 }
 
 impl fmt::Display for Prefix {
     fn fmt<W: fmt::Write>(&self, f: &mut fmt::Formatter<W>) -> fmt::Result {
-        let first = self.first as char;
-        let second = self.second as char;
+        let first = char::from(self.first);
+        let second = char::from(self.second);
         write!(f, "{first}{second}")
     }
 }

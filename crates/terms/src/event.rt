@@ -1,14 +1,15 @@
 //! What a company does: the event that adjusts the lines of its stock.
 ghost use Rattle.std.specs.Prelude.{◌≡◌};
 ghost use Rattle.terms.specs.Refusals.{answer, first};
-ghost use Rattle.terms.specs.Events.{no_rights, whole_rights, no_successor, whole_successor, cash_alone, event_outside, event_refusals, bad_prefix, too_late, ill_formed, no_effect};
+ghost use Rattle.terms.specs.Events.{no_rights, whole_rights, no_successor, whole_successor, cash_alone, event_outside, event_refusals, bad_prefix, too_late, ill_formed, no_effect, shares_stay};
 
 use crate::code::Prefix;
 use crate::refusal::Refusal;
 use crate::units;
 use crate::units::{Billionths, CashPerShare, Cents, Day};
 
-/// The right to subscribe new shares. A part that is 0 is absent.
+/// The right to subscribe new shares. A part that is 0 is absent. (It is no `Option`, since a call
+/// may give an event with a part of it, which is refused.)
 #[derive(Clone, Copy, PartialEq, Eq, Debug)]
 pub struct Rights {
     pub rate: Billionths,
@@ -16,7 +17,8 @@ pub struct Rights {
     pub deadline: Day,
 }
 
-/// The stock that takes the place of the old one, with its prefix. A part that is 0 is absent.
+/// The stock that takes the place of the old one, with its prefix. A part that is 0 is absent, and
+/// one may be given without the other, as with rights.
 #[derive(Clone, Copy, PartialEq, Eq, Debug)]
 pub struct Successor {
     pub stock: u32,
@@ -43,7 +45,7 @@ impl Rights {
     pub(crate) fn are_absent(&self) -> bool
         ensures { result ≡ no_rights self.now }
     {
-        self.rate == 0 && self.price == 0 && self.deadline == 0
+        *self == Rights::NONE
     }
 
     fn are_whole(&self) -> bool
@@ -64,7 +66,7 @@ impl Successor {
     pub fn is_absent(&self) -> bool
         ensures { result ≡ no_successor self.now }
     {
-        self.stock == 0 && self.prefix.is_absent()
+        *self == Successor::NONE
     }
 
     fn is_whole(&self) -> bool
@@ -98,10 +100,7 @@ impl Event {
     pub fn is_cash_alone(&self) -> bool
         ensures { result ≡ cash_alone self.now }
     {
-        self.cash != 0
-            && self.ratio == units::ONE
-            && self.rights.are_absent()
-            && self.successor.is_absent()
+        self.cash != 0 && self.leaves_shares()
     }
 
     /// Whether a new prefix is given that is none.
@@ -143,9 +142,13 @@ impl Event {
     fn has_no_effect(&self) -> bool
         ensures { result ≡ no_effect self.now }
     {
-        self.cash == 0
-            && self.ratio == units::ONE
-            && self.rights.are_absent()
-            && self.successor.is_absent()
+        self.cash == 0 && self.leaves_shares()
+    }
+
+    // Neither shares nor rights nor a new stock.
+    fn leaves_shares(&self) -> bool
+        ensures { result ≡ shares_stay self.now }
+    {
+        self.ratio == units::ONE && self.rights.are_absent() && self.successor.is_absent()
     }
 }

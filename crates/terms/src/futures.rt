@@ -1,5 +1,6 @@
 //! Stock futures.
-ghost use Rattle.terms.specs.Futures.{futures};
+ghost use Rattle.std.specs.Prelude.{◌≡◌, refl};
+ghost use Rattle.terms.specs.Futures.{futures, futures_value};
 ghost use Rattle.terms.specs.FamilyLaws.{futures_law};
 
 use crate::event::Event;
@@ -14,19 +15,19 @@ pub struct Futures;
 impl Family for Futures {
     ghost answers = { futures };
 
+    ghost LARGEST_LOT = { futures.largest };
+
     const LARGEST_LOT: ShareUnits = 400_000_000;
+
+    ghost STANDARD = { 70 };
 
     const STANDARD: char = 'F';
 
+    ghost largest_is = { refl };
+
+    ghost standard_is = { refl };
+
     ghost keeps = { futures_law };
-
-    fn lot_limit() -> ShareUnits {
-        Self::LARGEST_LOT
-    }
-
-    fn standard_letter() -> char {
-        Self::STANDARD
-    }
 
     fn letter(level: u8) -> Option<char> {
         match level {
@@ -76,14 +77,21 @@ impl Family for Futures {
     }
 
     fn trade_value(lot: &Lot, price: Cents) -> Micros {
-        price as u64 * lot.units as u64
+        value(lot, price)
     }
 
     fn mark_value(lot: &Lot, price: Cents) -> Micros {
-        price as u64 * lot.units as u64
+        value(lot, price)
     }
 
     fn final_value(lot: &Lot, price: Cents, dollars: Dollars) -> Micros {
-        price as u64 * lot.units as u64 + dollars as u64 * 1_000_000
+        value(lot, price) + u64::from(dollars) * 1_000_000
     }
+}
+
+// A lot at a price.
+fn value(lot: &Lot, price: Cents) -> Micros
+    ensures { result ≡ futures_value lot.now price }
+{
+    u64::from(price) * u64::from(lot.units)
 }

@@ -10,12 +10,13 @@ use crate::right::Right;
 use crate::units;
 
 impl Code {
-    /// The level that the letter stands for, none where the code is malformed.
+    /// The level that the letter stands for, none where the code is malformed. (By an `if`, as a call
+    /// of `and_then(F::level)` gets no proof.)
     pub fn level<F: Family>(&self) -> Option<u8>
         ensures { result ≡ code_level F.Family.answers self.now }
     {
         if self.prefix.is_well_formed() {
-            F::level(self.letter as char)
+            F::level(char::from(self.letter))
         } else {
             None
         }
@@ -28,15 +29,11 @@ impl Name {
         ensures refusal { answer result ≡ first (name_refusals F.Family.answers self.now) }
         ensures value { Accepted result (λ s. Some s ≡ series_named F.Family.answers self.now) }
     {
-        let Some(level) = self.code.level::<F>() else {
-            return Err(Refusal::Malformed);
-        };
+        let level = self.code.level::<F>().ok_or(Refusal::Malformed)?;
         if !units::is_day(self.expiry) {
             return Err(Refusal::OutsideUnits);
         }
-        let Some(right) = Right::from_number(self.right) else {
-            return Err(Refusal::Misfit);
-        };
+        let right = Right::try_from(self.right)?;
         if !F::fits(right, self.strike) {
             return Err(Refusal::Misfit);
         }

@@ -1,4 +1,5 @@
 //! Stock options.
+ghost use Rattle.std.specs.Prelude.{refl};
 ghost use Rattle.terms.specs.Options.{options};
 ghost use Rattle.terms.specs.FamilyLaws.{options_law};
 
@@ -15,19 +16,19 @@ pub struct Options;
 impl Family for Options {
     ghost answers = { options };
 
+    ghost LARGEST_LOT = { options.largest };
+
     const LARGEST_LOT: ShareUnits = 200_000_000;
+
+    ghost STANDARD = { 79 };
 
     const STANDARD: char = 'O';
 
+    ghost largest_is = { refl };
+
+    ghost standard_is = { refl };
+
     ghost keeps = { options_law };
-
-    fn lot_limit() -> ShareUnits {
-        Self::LARGEST_LOT
-    }
-
-    fn standard_letter() -> char {
-        Self::STANDARD
-    }
 
     fn letter(level: u8) -> Option<char> {
         match level {
@@ -77,7 +78,7 @@ impl Family for Options {
     }
 
     fn trade_value(lot: &Lot, price: Cents) -> Micros {
-        price as u64 * lot.strike_lot as u64
+        u64::from(price) * u64::from(lot.strike_lot)
     }
 
     fn mark_value(_lot: &Lot, _price: Cents) -> Micros {
@@ -85,9 +86,9 @@ impl Family for Options {
     }
 
     fn final_value(lot: &Lot, price: Cents, dollars: Dollars) -> Micros {
-        let delivered = price as u64 * lot.units as u64
-            + (lot.cash as u64 + dollars as u64) * 1_000_000;
-        let struck = lot.strike as u64 * lot.strike_lot as u64;
+        let dollars = u64::from(lot.cash) + u64::from(dollars);
+        let delivered = u64::from(price) * u64::from(lot.units) + dollars * 1_000_000;
+        let struck = u64::from(lot.strike) * u64::from(lot.strike_lot);
         match lot.right {
             Right::Without => 0,
             Right::Call => delivered.saturating_sub(struck),

@@ -5,7 +5,7 @@ ghost use Rattle.terms.specs.Reference.{nearest, reference, reference_refusals};
 
 use crate::refusal::Refusal;
 use crate::units;
-use crate::units::{Billionths, CashPerShare, Cents, LARGEST_PRICE};
+use crate::units::{Billionths, CashPerShare, Cents};
 
 /// The price less the cash, divided by the ratio, to the nearest cent.
 pub fn reference_price(
@@ -19,15 +19,15 @@ pub fn reference_price(
     if !(units::is_price(price) && units::is_cash(cash) && units::is_ratio(ratio)) {
         return Err(Refusal::OutsideUnits);
     }
-    let millionths = price as u64 * 10_000;
-    if millionths <= cash as u64 {
+    let millionths = u64::from(price) * 10_000;
+    let cash = u64::from(cash);
+    if millionths <= cash {
         return Err(Refusal::NoReferencePrice);
     }
-    let cents = rounded((millionths - cash as u64) * 100_000, ratio);
-    if cents < 1 || cents > LARGEST_PRICE as u64 {
-        return Err(Refusal::NoReferencePrice);
+    match Cents::try_from(rounded((millionths - cash) * 100_000, ratio)) {
+        Ok(cents) if units::is_price(cents) => Ok(cents),
+        _ => Err(Refusal::NoReferencePrice),
     }
-    Ok(cents as Cents)
 }
 
 // A quotient to the nearest whole number, halves up.

@@ -37,6 +37,7 @@ pub enum Refusal {
 }
 
 impl Refusal {
+    /// The number that the rules give the reason. (`u8::from(refusal)` would say less than this name.)
     pub fn number(self) -> u8
         ensures { result ≡ number_of self }
     {

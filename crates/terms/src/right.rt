@@ -1,6 +1,10 @@
 //! What a contract entitles its buyer to.
 ghost use Rattle.std.specs.Prelude.{◌≡◌};
+ghost use Rattle.std.specs.Option.{ok_or};
 ghost use Rattle.terms.specs.Names.{right_of, right_number};
+ghost use Rattle.terms.specs.declared.refusal.Refusal.TheVariants.{Misfit};
+
+use crate::refusal::Refusal;
 
 #[derive(Clone, Copy, PartialEq, Eq, Debug)]
 pub enum Right {
@@ -9,23 +13,28 @@ pub enum Right {
     Put,
 }
 
-impl Right {
-    /// The right that a call's number stands for.
-    pub fn from_number(number: u8) -> Option<Right>
-        ensures { result ≡ right_of number }
-    {
+/// The right that a call's number stands for.
+impl TryFrom<u8> for Right {
+    type Error = Refusal;
+
+    ghost try_from_gives = { λ number r. r ≡ ok_or (right_of number) Misfit };
+
+    fn try_from(number: u8) -> Result<Right, Refusal> {
         match number {
-            0 => Some(Right::Without),
-            1 => Some(Right::Call),
-            2 => Some(Right::Put),
-            _ => None,
+            0 => Ok(Right::Without),
+            1 => Ok(Right::Call),
+            2 => Ok(Right::Put),
+            _ => Err(Refusal::Misfit),
         }
     }
+}
 
-    pub fn number(self) -> u8
-        ensures { result ≡ right_number self }
-    {
-        match self {
+/// The number that a call gives for a right.
+impl From<Right> for u8 {
+    ghost from_gives = { λ right number. number ≡ right_number right };
+
+    fn from(right: Right) -> u8 {
+        match right {
             Right::Without => 0,
             Right::Call => 1,
             Right::Put => 2,

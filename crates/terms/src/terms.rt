@@ -27,12 +27,12 @@ impl Terms {
     pub fn is_within_units(&self) -> bool
         ensures { result ≡ terms_fit self.now }
     {
-        is_series_within_units(&self.series)
+        self.series.is_within_units()
             && units::is_number(self.stock)
             && units::is_units(self.units)
             && units::is_units(self.strike_lot)
             && self.cash <= units::LARGEST_LOT_CASH
-            && is_claim_within_units(&self.claim)
+            && self.claim.is_within_units()
     }
 
     /// What a family values of the line.
@@ -49,24 +49,30 @@ impl Terms {
     }
 }
 
-fn is_series_within_units(series: &Series) -> bool
-    ensures { result ≡ series_fits series.now }
-{
-    series.level <= units::LAST_LEVEL
-        && units::is_day(series.expiry)
-        && series.strike <= units::LARGEST_PRICE
+impl Series {
+    fn is_within_units(&self) -> bool
+        ensures { result ≡ series_fits self.now }
+    {
+        self.level <= units::LAST_LEVEL
+            && units::is_day(self.expiry)
+            && self.strike <= units::LARGEST_PRICE
+    }
 }
 
-fn is_claim_within_units(claim: &Claim) -> bool
-    ensures { result ≡ claim_fits claim.now }
-{
-    match *claim {
-        Claim::Absent => true,
-        Claim::Open {
-            units,
-            price,
-            deadline,
-        } => { units <= units::LARGEST_UNITS && units::is_price(price) && units::is_day(deadline) }
-        Claim::Fixed { dollars } => dollars <= units::LARGEST_CLAIM,
+impl Claim {
+    fn is_within_units(&self) -> bool
+        ensures { result ≡ claim_fits self.now }
+    {
+        match *self {
+            Claim::Absent => true,
+            Claim::Open {
+                units,
+                price,
+                deadline,
+            } => {
+                units <= units::LARGEST_UNITS && units::is_price(price) && units::is_day(deadline)
+            }
+            Claim::Fixed { dollars } => dollars <= units::LARGEST_CLAIM,
+        }
     }
 }

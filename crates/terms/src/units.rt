@@ -53,13 +53,13 @@ pub fn is_day(day: Day) -> bool
 pub fn is_price(cents: Cents) -> bool
     ensures { result ≡ is_price cents }
 {
-    1 <= cents && cents <= LARGEST_PRICE
+    (1..=LARGEST_PRICE).contains(&cents)
 }
 
 pub fn is_units(units: ShareUnits) -> bool
     ensures { result ≡ is_units units }
 {
-    1 <= units && units <= LARGEST_UNITS
+    (1..=LARGEST_UNITS).contains(&units)
 }
 
 /// Whether an account or stock may have this number.
@@ -73,13 +73,13 @@ pub fn is_number(number: u32) -> bool
 pub fn is_lots(lots: u16) -> bool
     ensures { result ≡ is_lots lots }
 {
-    1 <= lots && lots <= MOST_LOTS
+    (1..=MOST_LOTS).contains(&lots)
 }
 
 pub(crate) fn is_ratio(ratio: Billionths) -> bool
     ensures { result ≡ is_ratio ratio }
 {
-    1 <= ratio && ratio <= LARGEST_RATIO
+    (1..=LARGEST_RATIO).contains(&ratio)
 }
 
 pub(crate) fn is_rate(rate: Billionths) -> bool

@@ -11,7 +11,7 @@ impl Terms {
     pub fn worth(&self, price: Cents) -> u128
         ensures { result ≡ worth_before price self.now }
     {
-        price as u128 * self.units as u128 + self.cash as u128 * 1_000_000
+        u128::from(price) * u128::from(self.units) + u128::from(self.cash) * 1_000_000
     }
 }
 
@@ -20,7 +20,7 @@ impl Adjusted {
     pub fn worth(&self, price: Cents) -> u128
         ensures { result ≡ worth_after price self.now }
     {
-        let cash = self.terms.cash as u128 + self.booked as u128;
-        price as u128 * self.terms.units as u128 + cash * 1_000_000
+        let cash = u128::from(self.terms.cash) + u128::from(self.booked);
+        u128::from(price) * u128::from(self.terms.units) + cash * 1_000_000
     }
 }
