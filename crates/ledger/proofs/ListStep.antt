@@ -1,5 +1,6 @@
 -- An accepted listing keeps what holds.
 use Rattle.std.proofs.Common.{◌≡◌, ℕ, true, false, eqb, ◌∷◌, ℤ, pos, Some, sym, refl, ap, ◌∙◌, subst, arith}
+use lib.IntN.{zero-*ℤ}
 use mathlib.Core.Path.{fun_ext}
 use Rattle.std.proofs.lemmas.List.{length-set}
 use Rattle.std.proofs.lemmas.Bool.{not-false}
@@ -18,7 +19,7 @@ use Rattle.rows.specs.declared.table.Table.{Table}
 use Rattle.rows.specs.declared.call.Call.TheVariants.{Listing}
 use Rattle.ledger.specs.Ledger.{Ledger, post}
 use Rattle.ledger.specs.Agreement.{Perm, keep, join, Agrees, if_number, lots_of, view}
-use Rattle.ledger.proofs.Ring.{zero_mulℤ, if_zero}
+use Rattle.ledger.proofs.Ring.{if_zero}
 use Rattle.ledger.proofs.Sums.{total_none}
 use Rattle.ledger.proofs.Found.{Vacant, accepted, nowhere, vacant}
 use Rattle.ledger.proofs.Views.{view_insert, taken_is}
@@ -67,7 +68,7 @@ module _ (a : Answers) (t : Table) (g : Ledger) (day : ℕ) (name : Name) (stock
             (keep h.agrees.lines);
         equity = λ n.
             let before = h.agrees.equity n in
-            let none = zero_mulℤ (pos l.carry) in
+            let none = zero-*ℤ (pos l.carry) in
             omega (arith, ints);
       }
 

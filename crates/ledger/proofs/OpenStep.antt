@@ -1,5 +1,6 @@
 -- An accepted opening keeps what holds.
 use Rattle.std.proofs.Common.{◌≡◌, ℕ, suc, ◌<◌, ◌≤◌, Bool, true, false, cond, not, ◌||◌, eqb, List, [], ◌∷◌, ◌++◌, length, get_or, take, set, ℤ, pos, ◌+ℤ◌, ◌*ℤ◌, sym, refl, ap, ◌∙◌, subst, ap₂, arith}
+use lib.IntN.{zero-*ℤ}
 use mathlib.Core.Path.{fun_ext}
 use Rattle.std.proofs.lemmas.List.{length-set, length-map, get_or-set_other, map-set, map_push, take_more_set}
 use Rattle.std.proofs.lemmas.Bool.{or_parts, not-false, leb-false, eqb-true, eqb-false, cond-false}
@@ -17,7 +18,7 @@ use Rattle.rows.specs.declared.table.Table.{Table}
 use Rattle.rows.specs.declared.call.Call.TheVariants.{Opening}
 use Rattle.ledger.specs.Ledger.{Ledger, total, post}
 use Rattle.ledger.specs.Agreement.{Agrees, Balanced, if_number, lots_of, equity_of, view_from, carry_worth, numbers, NumbersDiffer}
-use Rattle.ledger.proofs.Ring.{zero_mulℤ, if_zero}
+use Rattle.ledger.proofs.Ring.{if_zero}
 use Rattle.ledger.proofs.Sums.{total_set, total_perm, perm_from}
 use Rattle.ledger.proofs.At.{set_at, none_at}
 use Rattle.ledger.proofs.Found.{accepted, at_least_one, nowhere}
@@ -35,7 +36,7 @@ no_worth : (rs : List Account) (n : ℕ) → ((j : ℕ) → lots_of rs j n ≡ p
 no_worth rs n h j [] = refl
 no_worth rs n h j (Free ∷ ls) = no_worth rs n h (suc j) ls
 no_worth rs n h j (Taken l ∷ ls) =
-    ap₂ (λ (x y : ℤ). x +ℤ y) (ap (λ (z : ℤ). z *ℤ pos l.carry) (h j) ∙ zero_mulℤ (pos l.carry)) (no_worth rs n h (suc j) ls)
+    ap₂ (λ (x y : ℤ). x +ℤ y) (ap (λ (z : ℤ). z *ℤ pos l.carry) (h j) ∙ zero-*ℤ (pos l.carry)) (no_worth rs n h (suc j) ls)
 
 module _ (a : Answers) (t : Table) (g : Ledger) (day n : ℕ) (h : Holds a t g) (ok : first (opening_refusals t day n) ≡ 0) where
   abbrev old : List Account

@@ -1,9 +1,10 @@
 -- Sums over lists.
 use Rattle.std.proofs.Common.{◌≡◌, ℕ, zero, suc, ◌<◌, Bool, true, false, cond, List, [], ◌∷◌, map, length, get_or, set, replicate, ℤ, pos, ◌+ℤ◌, ◌*ℤ◌, sym, refl, ap, ◌∙◌, subst, ap₂, arith}
+use lib.IntN.{zero-*ℤ}
 use Rattle.std.proofs.lemmas.Int.{ints}
 use Rattle.ledger.specs.Ledger.{total}
 use Rattle.ledger.specs.Agreement.{Perm, none, keep, swap, join}
-use Rattle.ledger.proofs.Ring.{plus_zero, first_alone, second_alone, zero_mulℤ, add_mulℤ}
+use Rattle.ledger.proofs.Ring.{plus_zero, first_alone, second_alone, add_mulℤ}
 
 module _ {X : Type 0} where
   -- of functions with equal values, of a sum and of a multiple
@@ -16,7 +17,7 @@ module _ {X : Type 0} where
   total_add f h (x ∷ xs) = let i = total_add f h xs in omega (arith, ints)
 
   pub total_mul : (f : X → ℤ) (d : ℤ) (xs : List X) → total (λ x. f x *ℤ d) xs ≡ total f xs *ℤ d
-  total_mul f d [] = sym (zero_mulℤ d)
+  total_mul f d [] = sym (zero-*ℤ d)
   total_mul f d (x ∷ xs) = ap (λ (z : ℤ). f x *ℤ d +ℤ z) (total_mul f d xs) ∙ sym (add_mulℤ (f x) (total f xs) d)
 
   -- after a write, and of equal elements that count nothing

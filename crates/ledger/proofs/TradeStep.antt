@@ -1,5 +1,6 @@
 -- An accepted trade keeps what holds.
 use Rattle.std.proofs.Common.{◌≡◌, ℕ, ◌<◌, ◌≤◌, Bool, true, false, cond, not, ◌||◌, eqb, List, length, get_or, set, ℤ, pos, ◌+ℤ◌, ◌-ℤ◌, ◌*ℤ◌, neg_ℤ, sym, refl, ap, ◌∙◌, subst, ap₂, arith}
+use lib.IntN.{zero-*ℤ, +ℤ_invr}
 use mathlib.Core.Path.{fun_ext}
 use Rattle.std.proofs.lemmas.List.{length-set, get_or-set_same, get_or-set_other, set-get_or, map-set}
 use Rattle.std.proofs.lemmas.Bool.{or_parts, eqb-true, eqb-false, eq-eqb, ne_eqb}
@@ -20,7 +21,7 @@ use Rattle.rows.specs.declared.table.Table.{Table}
 use Rattle.rows.specs.declared.call.Call.TheVariants.{Trade}
 use Rattle.ledger.specs.Ledger.{Entry, Ledger, total, is_named, at_name, between, dealt, paid, post}
 use Rattle.ledger.specs.Agreement.{Agrees, Balanced, if_number, lots_of, equity_of, view_from, view, carry_worth, numbers, NumbersDiffer}
-use Rattle.ledger.proofs.Ring.{plus_zero, cancel, zero_mulℤ, add_mulℤ, neg_mulℤ, mul_negℤ, mul_subℤ, if_plus}
+use Rattle.ledger.proofs.Ring.{plus_zero, add_mulℤ, neg_mulℤ, mul_negℤ, mul_subℤ, if_plus}
 use Rattle.ledger.proofs.Sums.{total_set, total_where, perm_map, perm_from}
 use Rattle.ledger.proofs.At.{set_at}
 use Rattle.ledger.proofs.Found.{Live, Open, accepted, at_least_one, live, open_row}
@@ -49,7 +50,7 @@ deal_split false true n c v =
   where
     spread : (x y : ℤ) → neg_ℤ (x -ℤ y) ≡ neg_ℤ x -ℤ neg_ℤ y
     spread x y = omega (arith, ints)
-deal_split false false n c v = sym (ap (λ (z : ℤ). z -ℤ pos 0) (zero_mulℤ c))
+deal_split false false n c v = sym (ap (λ (z : ℤ). z -ℤ pos 0) (zero-*ℤ c))
 
 -- a row after a trade
 traded_lots : (j p : ℕ) (z gain : ℤ) (r : Account) → p < length r.lots → (b : Bool) → eqb j p ≡ b → lots_in j (traded p z gain r) ≡ lots_in j r +ℤ cond b z (pos 0)
@@ -238,7 +239,7 @@ module _ (a : Answers) (t : Table) (g : Ledger) (day : ℕ) (name : Name) (b s p
   lots_balanced : (j : ℕ) (x : Bool) → eqb j p ≡ x → total (lots_in j) new ≡ pos 0
   lots_balanced j true e =
       deal (lots_in j) (pos n) (neg_ℤ (pos n)) (b_lots j true e) (s_lots j true e)
-      ∙ ap₂ (λ (x y : ℤ). x +ℤ y) (h.balanced.lots j) (cancel (pos n))
+      ∙ ap₂ (λ (x y : ℤ). x +ℤ y) (h.balanced.lots j) (+ℤ_invr (pos n))
   lots_balanced j false e =
       deal (lots_in j) (pos 0) (pos 0) (b_lots j false e) (s_lots j false e)
       ∙ ap (λ (x : ℤ). x +ℤ pos 0) (h.balanced.lots j)
@@ -249,7 +250,7 @@ module _ (a : Answers) (t : Table) (g : Ledger) (day : ℕ) (name : Name) (b s p
         lots = λ j. lots_balanced j (eqb j p) refl;
         equity =
             deal (λ r. r.equity) gain (neg_ℤ gain) refl lost
-            ∙ ap₂ (λ (x y : ℤ). x +ℤ y) h.balanced.equity (cancel gain);
+            ∙ ap₂ (λ (x y : ℤ). x +ℤ y) h.balanced.equity (+ℤ_invr gain);
       }
 
   -- a row is the buyer's, the seller's or as it was
