@@ -1,5 +1,6 @@
 -- The credits of all rows, added up by place: rows then places, or places then rows.
-use Rattle.std.proofs.Common.{◌≡◌, ℕ, suc, ◌*◌, Bool, true, false, cond, List, [], ◌∷◌, map, get_or, ℤ, pos, ◌+ℤ◌, ◌*ℤ◌, sym, refl, ap, ◌∙◌, ap₂}
+use Rattle.std.proofs.Common.{◌≡◌, ℕ, suc, ◌*◌, Bool, true, false, cond, List, [], ◌∷◌, map, get_or, ℤ, pos, ◌+ℤ◌, ◌*ℤ◌, sym, refl, ap, ◌∙◌, ap₂, arith}
+use Rattle.std.proofs.lemmas.Int.{ints}
 use lib.IntN.{*ℤ-zero, zero-*ℤ}
 use Rattle.terms.specs.Family.{Answers}
 use Rattle.terms.specs.Adjust.{takes_in, booked_part}
@@ -57,8 +58,7 @@ module _ (p : Account → Bool) (rs : List Account) where
 -- the dollars booked to a place's lots are those booked to its entry
 module _ (a : Answers) (day : ℕ) (event : Event) (rs : List Account) (n : ℕ) where
   at_place : (b : Bool) (lots : ℤ) (dollars : ℕ) → lots *ℤ pos (cond b dollars 0 * 1000000) ≡ cond b (lots *ℤ pos (dollars * 1000000)) (pos 0)
-  at_place true lots dollars = refl
-  at_place false lots dollars = *ℤ-zero lots
+  at_place b lots dollars = grind (arith, ints)
 
   pub spread_booked : (j : ℕ) (ls : List Place) → spread (λ i. lots_of rs i n) j (map (entry a day event) ls) ≡ total (booked a day event n) (view_from rs j ls)
   spread_booked j [] = refl

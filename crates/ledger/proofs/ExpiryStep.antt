@@ -1,5 +1,6 @@
 -- An accepted expiry keeps what holds.
 use Rattle.std.proofs.Common.{◌≡◌, ℕ, zero, suc, cond, eqb, ◌⊎◌, List, [], ◌∷◌, map, get_or, set, ℤ, pos, ◌-ℤ◌, ◌*ℤ◌, sym, refl, ap, ◌∙◌, subst, ap₂, inl, inr, arith}
+use Rattle.std.proofs.lemmas.Grind.{common_steps}
 use mathlib.Core.Path.{fun_ext}
 use Rattle.std.proofs.lemmas.List.{length-set, get_or-set_other, set-get_or}
 use Rattle.std.proofs.lemmas.Bool.{cases_eq}
@@ -30,9 +31,7 @@ use Rattle.ledger.proofs.Well.{Well, Holds, pick}
 
 -- the default, written anywhere
 set_none : {X : Type 0} (xs : List X) (i : ℕ) (d : X) → get_or (set xs i d) i d ≡ d
-set_none [] i d = refl
-set_none (x ∷ xs) zero d = refl
-set_none (x ∷ xs) (suc i) d = set_none xs i d
+set_none xs i d = grind (arith, common_steps)
 
 expiry_gains : (j : ℕ) (gain : ℤ) → Gains (closed j gain) (λ r. lots_in j r *ℤ gain)
 expiry_gains j gain =

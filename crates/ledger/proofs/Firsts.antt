@@ -7,10 +7,7 @@ use Rattle.ledger.specs.Agreement.{Perm, none, keep, swap, join, at_found}
 use Rattle.ledger.proofs.Found.{found, nowhere}
 
 or_swap : (x y z : Bool) → (x || (y || z)) ≡ (y || (x || z))
-or_swap true true z = refl
-or_swap true false z = refl
-or_swap false true z = refl
-or_swap false false z = refl
+or_swap x y z = grind arith
 
 module _ {X : Type 0} (p : X → Bool) where
   -- whether the test passes anywhere does not depend on the order

@@ -1,5 +1,5 @@
 -- The lines of a book, each changed where it stands: a free place stays free and a live line live.
-use Rattle.std.proofs.Common.{◌≡◌, ℕ, suc, Bool, true, false, cond, not, ◌&&◌, ◌||◌, eqb, List, [], ◌∷◌, map, get_or, pos, ◌*ℤ◌, sym, refl, ap, ◌∙◌, subst, ap₂}
+use Rattle.std.proofs.Common.{◌≡◌, ℕ, suc, Bool, true, false, cond, not, ◌&&◌, ◌||◌, eqb, List, [], ◌∷◌, map, get_or, pos, ◌*ℤ◌, sym, refl, ap, ◌∙◌, subst, ap₂, arith}
 use mathlib.Core.Path.{transport, transport⁻¹, fun_ext}
 use Rattle.std.proofs.lemmas.Bool.{or_parts, or_from}
 use Rattle.lookup.specs.Seek.{any_of}
@@ -115,12 +115,10 @@ module _ {f : Place → Place} {g : Line → Line} (changes : Changes f g) where
 
 -- where the lines that pass a test are changed, so are their entries
 pub cond_kept : {X Y : Type 0} (f : X → Y) (b : Bool) (x y : X) → f x ≡ f y → f (cond b x y) ≡ f y
-cond_kept f true x y e = e
-cond_kept f false x y e = refl
+cond_kept f b x y e = grind arith
 
 cond_line : (b : Bool) (l : Line) (e : Entry) → record { line = cond b l e.line; lots = e.lots } ≡ cond b (record { line = l; lots = e.lots }) e
-cond_line true l e = refl
-cond_line false l e = refl
+cond_line b l e = grind arith
 
 module _ (p : Line → Bool) (g : Line → Line) where
   abbrev pub if_passes : Line → Line

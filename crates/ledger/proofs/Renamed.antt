@@ -30,8 +30,7 @@ adjusts_places a day event = record { free = refl; taken = λ l. refl }
 
 -- a line that has no name expires on day 0, and so an event leaves it as it is
 not_after : (day : ℕ) (b : Bool) → (b && ltb day 0) ≡ false
-not_after day true = le-ltb day 0 (omega arith)
-not_after day false = refl
+not_after day b = grind arith
 
 pub unnamed_stays : (a : Answers) (day : ℕ) (event : Event) (l : Line) → l.terms.series ≡ no_series → (line_after a day event l).terms.series ≡ no_series
 unnamed_stays a day event l e =
@@ -41,15 +40,14 @@ unnamed_stays a day event l e =
 
 -- of two tests that do not both pass, the second fails where the first passes
 then_not : (x y : Bool) → (x && y) ≡ false → x ≡ true → y ≡ false
-then_not x y e h = sym (ap (λ (b : Bool). b && y) h) ∙ e
+then_not x y e h = grind arith
 
 -- a line clashes by its prefix and stock alone, and not with itself
 same_clash : (x x' z : Line) → x'.terms.series.prefix ≡ x.terms.series.prefix → x'.terms.stock ≡ x.terms.stock → by_stock x' (Taken z) ≡ by_stock x (Taken z)
 same_clash x x' z p s = ap₂ (λ (p : Prefix) (s : ℕ). clashes p s (Taken z)) p s
 
 self_clash : (l : Line) → by_stock l (Taken l) ≡ false
-self_clash l =
-    ap₂ (λ (a b : Bool). (a && not b) || (b && not a)) (prefix_self l.terms.series.prefix) (eq-eqb l.terms.stock l.terms.stock refl)
+self_clash l = grind (arith, prefix_self)
 
 -- no two lines of a book clash, in whatever order they stand
 stocks_among : (ls : List Place) → StocksAgree ls → (x y : Line) → Among x ls → Among y ls → by_stock x (Taken y) ≡ false
@@ -79,8 +77,7 @@ one_prefix x y n e =
 
 -- the level moves for all lines or for none
 level_back : (b : Bool) (m n : ℕ) → cond b (m + 1) m ≡ cond b (n + 1) n → m ≡ n
-level_back true m n e = omega arith
-level_back false m n e = e
+level_back b m n e = grind arith
 
 module _ (a : Answers) (day : ℕ) (event : Event) (ls : List Place) (stocks : StocksAgree ls) where
   abbrev taken : Line → Bool

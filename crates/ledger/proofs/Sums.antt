@@ -57,14 +57,10 @@ total_map f h (x ∷ xs) = ap (λ (z : ℤ). f (h x) +ℤ z) (total_map f h xs)
 
 -- where the elements that pass a test are changed
 pub total_where : {X : Type 0} (f : X → ℤ) (p : X → Bool) (h : X → X) (gain : X → ℤ) → ((x : X) → f (h x) ≡ f x +ℤ gain x) → (xs : List X) → total f (map (λ x. cond (p x) (h x) x) xs) ≡ total f xs +ℤ total (λ x. cond (p x) (gain x) (pos 0)) xs
-total_where f p h gain e xs =
-    total_map f (λ x. cond (p x) (h x) x) xs
-    ∙ (total_ext (λ x. f (cond (p x) (h x) x)) (λ x. f x +ℤ cond (p x) (gain x) (pos 0)) (λ x. by x (p x)) xs
-    ∙ total_add f (λ x. cond (p x) (gain x) (pos 0)) xs)
-  where
-    by : (x : _) (b : Bool) → f (cond b (h x) x) ≡ f x +ℤ cond b (gain x) (pos 0)
-    by x true = e x
-    by x false = plus_zero (f x)
+total_where f p h gain e [] = refl
+total_where f p h gain e (x ∷ xs) =
+    let here : f (cond (p x) (h x) x) ≡ f x +ℤ cond (p x) (gain x) (pos 0) = grind (arith, ints, e x) in
+    omega (arith, ints, total_where f p h gain e xs)
 
 -- lists in another order
 pub perm_map : {X Y : Type 0} (f : X → Y) {xs ys : List X} → Perm xs ys → Perm (map f xs) (map f ys)

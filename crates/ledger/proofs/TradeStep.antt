@@ -1,5 +1,6 @@
 -- An accepted trade keeps what holds.
 use Rattle.std.proofs.Common.{◌≡◌, ℕ, ◌<◌, ◌≤◌, Bool, true, false, cond, not, ◌||◌, eqb, List, length, get_or, set, ℤ, pos, ◌+ℤ◌, ◌-ℤ◌, ◌*ℤ◌, neg_ℤ, sym, refl, ap, ◌∙◌, subst, ap₂, arith}
+use Rattle.std.proofs.lemmas.Grind.{common_steps}
 use lib.IntN.{zero-*ℤ, +ℤ_invr}
 use mathlib.Core.Path.{fun_ext}
 use Rattle.std.proofs.lemmas.List.{length-set, get_or-set_same, get_or-set_other, set-get_or, map-set}
@@ -33,33 +34,19 @@ turned from to = omega (arith, ints)
 
 -- what the buyer and the seller get, of nothing, by two tests, and of a price in two parts
 of_nothing : (x y : Bool) → cond x (pos 0) (cond y (neg_ℤ (pos 0)) (pos 0)) ≡ pos 0
-of_nothing true y = refl
-of_nothing false true = refl
-of_nothing false false = refl
+of_nothing x y = grind (arith, ints)
 
-both : (b s m : ℕ) (x y : Bool) (d : ℤ) → (b ≡ s → ⊥) → eqb b m ≡ x → eqb s m ≡ y → cond x d (pos 0) +ℤ cond y (neg_ℤ d) (pos 0) ≡ cond x d (cond y (neg_ℤ d) (pos 0))
-both b s m true true d n e f = absurd (n (eqb-true b m e ∙ sym (eqb-true s m f)))
-both b s m true false d n e f = sym (plus_zero d)
-both b s m false true d n e f = omega (arith, ints)
-both b s m false false d n e f = refl
+both : (b s m : ℕ) (d : ℤ) → (b ≡ s → ⊥) → cond (eqb b m) d (pos 0) +ℤ cond (eqb s m) (neg_ℤ d) (pos 0) ≡ between b s d m
+both b s m d n = grind (arith, ints)
 
 deal_split : (x y : Bool) (n c v : ℤ) → cond x (n *ℤ (c -ℤ v)) (cond y (neg_ℤ (n *ℤ (c -ℤ v))) (pos 0)) ≡ cond x n (cond y (neg_ℤ n) (pos 0)) *ℤ c -ℤ cond x (n *ℤ v) (cond y (neg_ℤ (n *ℤ v)) (pos 0))
 deal_split true y n c v = mul_subℤ n c v
-deal_split false true n c v =
-    ap neg_ℤ (mul_subℤ n c v) ∙ (spread (n *ℤ c) (n *ℤ v) ∙ ap (λ (z : ℤ). z -ℤ neg_ℤ (n *ℤ v)) (sym (neg_mulℤ n c)))
-  where
-    spread : (x y : ℤ) → neg_ℤ (x -ℤ y) ≡ neg_ℤ x -ℤ neg_ℤ y
-    spread x y = omega (arith, ints)
-deal_split false false n c v = sym (ap (λ (z : ℤ). z -ℤ pos 0) (zero-*ℤ c))
+deal_split false true n c v = omega (arith, ints, mul_subℤ n c v, neg_mulℤ n c)
+deal_split false false n c v = omega (arith, ints)
 
 -- a row after a trade
 traded_lots : (j p : ℕ) (z gain : ℤ) (r : Account) → p < length r.lots → (b : Bool) → eqb j p ≡ b → lots_in j (traded p z gain r) ≡ lots_in j r +ℤ cond b z (pos 0)
-traded_lots j p z gain r h true e =
-    let q : p ≡ j = sym (eqb-true j p e) in
-    subst (λ (i : ℕ). get_or (set r.lots p (lots_in p r +ℤ z)) i (pos 0) ≡ lots_in i r +ℤ z) q
-    (get_or-set_same r.lots p (lots_in p r +ℤ z) (pos 0) h)
-traded_lots j p z gain r h false e =
-    get_or-set_other r.lots p j (lots_in p r +ℤ z) (pos 0) (eqb-false j p e) ∙ plus_zero (lots_in j r)
+traded_lots j p z gain r h b e = grind (arith, ints, common_steps)
 
 same_numbers : (rs : List Account) (i : ℕ) (r : Account) → r.number ≡ (get_or rs i no_account).number → numbers (set rs i r) ≡ numbers rs
 same_numbers rs i r e =
@@ -167,7 +154,7 @@ module _ (a : Answers) (t : Table) (g : Ledger) (day : ℕ) (name : Name) (b s p
       ∙ (if_plus (eqb rb.number m) (f rb) d ∙ ap (λ (i : ℕ). if_number m f rb +ℤ cond (eqb i m) d (pos 0)) buyer.number))
       (ap (λ (z : ℤ). cond (eqb rs.number m) z (pos 0)) hS
       ∙ (if_plus (eqb rs.number m) (f rs) (neg_ℤ d) ∙ ap (λ (i : ℕ). if_number m f rs +ℤ cond (eqb i m) (neg_ℤ d) (pos 0)) seller.number))
-      ∙ ap (λ (z : ℤ). total (if_number m f) old +ℤ z) (both b s m (eqb b m) (eqb s m) d apart refl refl)
+      ∙ ap (λ (z : ℤ). total (if_number m f) old +ℤ z) (both b s m d apart)
 
   p_in : (i : ℕ) → i < rows → p < length (account_at t i).lots
   p_in i c = omega (arith, found.within, h.well.lines, h.well.lots i c)

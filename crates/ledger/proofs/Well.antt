@@ -1,5 +1,6 @@
 -- What every run keeps of its table, besides balance and agreement.
 use Rattle.std.proofs.Common.{◌≡◌, ℕ, ◌<◌, ◌≤◌, ◌⊎◌, List, map, length, get_or, take, set, ℤ, pos, sym, refl, ap, ◌∙◌, subst, inl, inr, arith}
+use Rattle.std.proofs.lemmas.Grind.{common_steps}
 use Rattle.std.proofs.lemmas.List.{get_or-set_same, get_or-set_other, take-map}
 use Rattle.std.proofs.lemmas.Bool.{cases_eq}
 use Rattle.terms.specs.declared.code.Series.{Series}
@@ -55,16 +56,5 @@ pick {a} t g k h found f =
 
 -- a new number keeps numbers different
 module _ (ns : List ℕ) (c n : ℕ) (within : c < length ns) (new : (j : ℕ) → get_or ns j 0 ≡ n → ⊥) (differ : NumbersDiffer ns) where
-  at_new : (i : ℕ) → i ≡ c → get_or (set ns c n) i 0 ≡ n
-  at_new i e = subst (λ (m : ℕ). get_or (set ns c n) m 0 ≡ n) (sym e) (get_or-set_same ns c n 0 within)
-
-  differ_by : (i j : ℕ) → (i ≡ c) ⊎ (i ≡ c → ⊥) → (j ≡ c) ⊎ (j ≡ c → ⊥) → 1 ≤ get_or (set ns c n) i 0 → get_or (set ns c n) i 0 ≡ get_or (set ns c n) j 0 → i ≡ j
-  differ_by i j (inl p) (inl q) h e = p ∙ sym q
-  differ_by i j (inl p) (inr q) h e = absurd (new j (sym (get_or-set_other ns c j n 0 q) ∙ (sym e ∙ at_new i p)))
-  differ_by i j (inr p) (inl q) h e = absurd (new i (sym (get_or-set_other ns c i n 0 p) ∙ (e ∙ at_new j q)))
-  differ_by i j (inr p) (inr q) h e =
-      let is = get_or-set_other ns c i n 0 p in
-      differ i j (subst (λ (m : ℕ). 1 ≤ m) is h) (sym is ∙ (e ∙ get_or-set_other ns c j n 0 q))
-
   pub differ_set : NumbersDiffer (set ns c n)
-  differ_set i j h e = differ_by i j (cases_eq i c) (cases_eq j c) h e
+  differ_set i j h e = grind (arith, common_steps, new, differ)
