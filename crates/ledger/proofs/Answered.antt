@@ -16,7 +16,7 @@ use Rattle.ledger.specs.Ledger.{Entry, Ledger, total, is_named}
 use Rattle.ledger.specs.Agreement.{Answered, NamesDiffer, NumbersDiffer, numbers, if_number, view_from, carry_worth, ledger_of, entry_named, entry_terms, entry_lots, at_found}
 use Rattle.ledger.proofs.Sums.{total_one}
 use Rattle.ledger.proofs.Found.{Open, live, open_row, nowhere}
-use Rattle.ledger.proofs.Views.{entry, not_both, other_name}
+use Rattle.ledger.proofs.Views.{entry, walk}
 use Rattle.ledger.proofs.Firsts.{Only, any_perm, any_take, any_found, any_map, only_none, only_perm, at_some, at_none}
 use Rattle.ledger.proofs.Well.{Holds, number_at}
 use Rattle.ledger.proofs.Main.{holds_after}
@@ -46,21 +46,11 @@ module _ (k : Series) where
 
   module _ (rs : List Account) (P : ℕ) (l : Line) (named : l.terms.series ≡ k) where
     view_only : (j : ℕ) (ls : List Place) (i : ℕ) → NamesDiffer ls → get_or ls i Free ≡ Taken l → j + i ≡ P → Only (is_named k) (entry rs P l) (view_from rs j ls)
-    view_only j [] i u e at = not_both l e
-    view_only j (Free ∷ ls) zero u e at = not_both l e
-    view_only j (Free ∷ ls) (suc i) u e at = view_only (suc j) ls i u e (omega arith)
-    view_only j (Taken x ∷ ls) zero u e at =
-        let x_is : x ≡ l = cc in
-        let z : j ≡ P = omega arith in
-        let n : any_of (holds (Some k)) ls ≡ false =
-        subst (λ (y : Series). any_of (holds (Some y)) ls ≡ false) (ap (λ (y : Line). y.terms.series) x_is ∙ named) u.0 in (
-          λ h. ap₂ (λ (i : ℕ) (y : Line). entry rs i y) z x_is,
-          only_none (is_named k) (entry rs P l) (view_from rs (suc j) ls) (view_any rs (suc j) ls ∙ n),
-        )
-    view_only j (Taken x ∷ ls) (suc i) u e at = (
-      λ h. absurd (both_ways (same_series x.terms.series k) (other_name k x ls i l u.0 e named) h),
-      view_only (suc j) ls i u.1 e (omega arith),
-    )
+    view_only =
+        walk k P l named (λ j ls i. Only (is_named k) (entry rs P l) (view_from rs j ls))
+        (λ ls n. (λ h. refl, only_none (is_named k) (entry rs P l) (view_from rs (suc P) ls) (view_any rs (suc P) ls ∙ n)))
+        (λ j ls i q. q)
+        (λ j x ls i n away q. (λ h. absurd (both_ways (same_series x.terms.series k) n h), q))
 
 -- a sum over the rows of a number
 module _ (t : Table) (n : ℕ) (above : 1 ≤ n) (differ : NumbersDiffer (numbers t.accounts)) (o : Open t n) where
