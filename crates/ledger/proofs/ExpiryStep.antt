@@ -34,16 +34,7 @@ set_none : {X : Type 0} (xs : List X) (i : ℕ) (d : X) → get_or (set xs i d) 
 set_none xs i d = grind (arith, common_steps)
 
 expiry_gains : (j : ℕ) (gain : ℤ) → Gains (closed j gain) (λ r. lots_in j r *ℤ gain)
-expiry_gains j gain =
-    record {
-      number = λ r. refl;
-      equity = λ r. refl;
-      lots = λ r. length-set r.lots j (pos 0);
-      unheld = λ r e.
-          ap₂ (λ (z : ℤ) (ns : List ℤ). record { number = r.number; equity = z; lots = ns })
-          (no_gain r.equity (lots_in j r) gain (e j))
-          (ap (set r.lots j) (sym (e j)) ∙ set-get_or r.lots j (pos 0));
-    }
+expiry_gains j gain = grind (arith, ints, common_steps)
 
 module _ (a : Answers) (t : Table) (g : Ledger) (day : ℕ) (name : Name) (price close : ℕ) (h : Holds a t g) (ok : first (expiry_refusals a t day name price close) ≡ 0) where
   abbrev k : Series

@@ -33,14 +33,7 @@ recarried : (n : ℤ) (c v : ℕ) → n *ℤ pos v ≡ n *ℤ pos c +ℤ n *ℤ 
 recarried n c v = let e = mul_subℤ n (pos v) (pos c) in omega (arith, ints)
 
 mark_gains : (j : ℕ) (gain : ℤ) → Gains (gained j gain) (λ r. lots_in j r *ℤ gain)
-mark_gains j gain =
-    record {
-      number = λ r. refl;
-      equity = λ r. refl;
-      lots = λ r. refl;
-      unheld = λ r e.
-          ap (λ (z : ℤ). record { number = r.number; equity = z; lots = r.lots }) (no_gain r.equity (lots_in j r) gain (e j));
-    }
+mark_gains j gain = grind (arith, ints)
 
 module _ (a : Answers) (t : Table) (g : Ledger) (day : ℕ) (name : Name) (price : ℕ) (h : Holds a t g) (ok : first (mark_refusals a t day name price) ≡ 0) where
   abbrev k : Series

@@ -46,9 +46,7 @@ module _ (a : Answers) (t : Table) (g : Ledger) (day n : ℕ) (h : Holds a t g) 
   new = set old t.count (new_account n)
 
   above : 1 ≤ n
-  above =
-      let q : (not (is_day day) || not (is_number n)) ≡ false = accepted (opening_refusals t day n) 0 refl ok in
-      at_least_one n (or_parts (not (is_day day)) (not (is_number n)) q).1
+  above = at_least_one n (or_parts (not (is_day day)) (not (is_number n)) (accepted (opening_refusals t day n) 0 refl ok)).1
 
   absent : any_of (numbered n) old ≡ false
   absent = nowhere (numbered n) old (not-false (missing (found_account t n)) (accepted (opening_refusals t day n) 2 refl ok))

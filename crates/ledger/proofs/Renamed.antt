@@ -33,10 +33,7 @@ not_after : (day : ℕ) (b : Bool) → (b && ltb day 0) ≡ false
 not_after day b = grind arith
 
 pub unnamed_stays : (a : Answers) (day : ℕ) (event : Event) (l : Line) → l.terms.series ≡ no_series → (line_after a day event l).terms.series ≡ no_series
-unnamed_stays a day event l e =
-    let out : takes_in day event l.terms ≡ false =
-    ap (λ (s : Series). eqb l.terms.stock event.stock && ltb day s.expiry) e ∙ not_after day (eqb l.terms.stock event.stock) in
-    ap (λ (x : Line). x.terms.series) (cond-false (takes_in day event l.terms) (adjusted_line a day event l) l out) ∙ e
+unnamed_stays a day event l e = grind arith
 
 -- of two tests that do not both pass, the second fails where the first passes
 then_not : (x y : Bool) → (x && y) ≡ false → x ≡ true → y ≡ false
@@ -69,11 +66,7 @@ stocks_among (Taken z ∷ ls) u x y (suc i, e) (suc j, q) = stocks_among ls u.1 
 
 -- lines of one stock that do not clash have one prefix
 one_prefix : (x y : Line) → by_stock x (Taken y) ≡ false → y.terms.stock ≡ x.terms.stock → y.terms.series.prefix ≡ x.terms.series.prefix
-one_prefix x y n e =
-    let prefixes = same_prefix y.terms.series.prefix x.terms.series.prefix in
-    let stocks = eqb y.terms.stock x.terms.stock in
-    prefix_is y.terms.series.prefix x.terms.series.prefix
-    (not-false prefixes (then_not stocks (not prefixes) (or_parts (prefixes && not stocks) (stocks && not prefixes) n).1 (eq-eqb y.terms.stock x.terms.stock e)))
+one_prefix x y n e = grind (arith, prefix_is)
 
 -- the level moves for all lines or for none
 level_back : (b : Bool) (m n : ℕ) → cond b (m + 1) m ≡ cond b (n + 1) n → m ≡ n
@@ -88,9 +81,7 @@ module _ (a : Answers) (day : ℕ) (event : Event) (ls : List Place) (stocks : S
   made b l = cond b (adjusted_line a day event l) l
 
   stock_is : (l : Line) → taken l ≡ true → l.terms.stock ≡ event.stock
-  stock_is l h =
-      eqb-true l.terms.stock event.stock
-      (and_parts (eqb l.terms.stock event.stock) (ltb day l.terms.series.expiry) h).0
+  stock_is l h = grind arith
 
   -- lines taken in keep different names
   both_in : (x y : Line) → Among x ls → Among y ls → taken x ≡ true → taken y ≡ true → by_name x (Taken y) ≡ false → by_name (made true x) (Taken (made true y)) ≡ false
@@ -127,21 +118,13 @@ module _ (a : Answers) (day : ℕ) (event : Event) (ls : List Place) (stocks : S
   -- without a new stock, each line keeps its prefix and its stock
   module _ (none : no_successor event.successor ≡ true) where
     same_prefix_by : (b : Bool) (l : Line) → (made b l).terms.series.prefix ≡ l.terms.series.prefix
-    same_prefix_by b l =
-        cond_kept (λ (x : Line). x.terms.series.prefix) b (adjusted_line a day event l) l
-        (cond-true (no_successor event.successor) l.terms.series.prefix event.successor.prefix none)
+    same_prefix_by b l = grind arith
 
     same_stock_by : (b : Bool) (l : Line) → (made b l).terms.stock ≡ l.terms.stock
-    same_stock_by b l =
-        cond_kept (λ (x : Line). x.terms.stock) b (adjusted_line a day event l) l
-        (cond-true (no_successor event.successor) l.terms.stock event.successor.stock none)
+    same_stock_by b l = grind arith
 
     clash_kept : (b c : Bool) (x y : Line) → by_stock (made b x) (Taken (made c y)) ≡ by_stock x (Taken y)
-    clash_kept b c x y =
-        same_clash x (made b x) (made c y) (same_prefix_by b x) (same_stock_by b x)
-        ∙ (stock_turn x (made c y)
-        ∙ (same_clash y (made c y) x (same_prefix_by c y) (same_stock_by c y)
-        ∙ stock_turn y x))
+    clash_kept b c x y = grind (arith, same_prefix_by, same_stock_by)
 
   -- with one, the lines taken in have it and its prefix, and it contradicts no line left out
   module _ (none_contradicts : (not (no_successor event.successor) && any_of (contradicts day event) ls) ≡ false) where
@@ -153,9 +136,7 @@ module _ (a : Answers) (day : ℕ) (event : Event) (ls : List Place) (stocks : S
       new_stock l = cond-false (no_successor event.successor) l.terms.stock event.successor.stock some
 
       both_new : (x y : Line) → by_stock (made true x) (Taken (made true y)) ≡ false
-      both_new x y =
-          same_clash (made true y) (made true x) (made true y) (new_prefix x ∙ sym (new_prefix y)) (new_stock x ∙ sym (new_stock y))
-          ∙ self_clash (made true y)
+      both_new x y = grind (arith, new_prefix, new_stock, self_clash)
 
       one_new : (x y : Line) → Among y ls → taken y ≡ false → by_stock (made true x) (Taken y) ≡ false
       one_new x y n q =
