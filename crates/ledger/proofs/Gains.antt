@@ -72,7 +72,3 @@ module _ (p : ℕ) (d : ℤ) (rs : List Account) where
 
   pub none_in_all : total (lots_in p) rs ≡ pos 0 → total (λ r. lots_in p r *ℤ d) rs ≡ pos 0
   none_in_all e = total_mul (lots_in p) d rs ∙ (ap (λ (z : ℤ). z *ℤ d) e ∙ zero-*ℤ d)
-
--- an account with no lots there gains nothing
-pub no_gain : (x n d : ℤ) → n ≡ pos 0 → x +ℤ n *ℤ d ≡ x
-no_gain x n d e = first_alone x (n *ℤ d) x refl (ap (λ (m : ℤ). m *ℤ d) e ∙ zero-*ℤ d)

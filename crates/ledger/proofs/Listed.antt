@@ -1,6 +1,6 @@
 -- A listed line has the prefix of its call, unless the family cannot read its standard letter: then
 -- no line has a name, and so there is one at most.
-use Rattle.std.proofs.Common.{◌≡◌, ℕ, suc, true, false, ◌⊎◌, List, [], ◌∷◌, map, get_or, set, Some, None, Option, sym, refl, ap, ◌∙◌, subst, inl, inr, ⊎_elim}
+use Rattle.std.proofs.Common.{◌≡◌, ℕ, suc, true, false, ◌⊎◌, List, [], ◌∷◌, map, get_or, set, Some, None, Option, sym, refl, ap, ◌∙◌, subst, inl, inr, ⊎_elim, arith}
 use Rattle.std.proofs.lemmas.Bool.{and_parts, both_ways, eqb-true, cond-true}
 use Rattle.lookup.specs.Seek.{any_of}
 use Rattle.terms.specs.Names.{is_prefix, right_of}
@@ -32,13 +32,10 @@ abbrev pub Nameless : Answers → List Place → Type 0
 Nameless a ls = standard_level a ≡ None → (j : ℕ) (l : Line) → get_or ls j Free ≡ Taken l → l.terms.series ≡ no_series
 
 letter_level : (a : Answers) (o : Option ℕ) (c : ℕ) → is_letter o c ≡ true → a.level c ≡ level_by a o
-letter_level a None c h = absurd (both_ways false refl h)
-letter_level a (Some s) c h = ap (λ (n : ℕ). a.level n) (sym (eqb-true s c h))
+letter_level a o c h = grind arith
 
 prefix_by : (a : Answers) (n : Name) (o : Option ℕ) (r : Option Right) → right_fits a r n.strike ≡ true → (o ≡ None) ⊎ ((series_or (series_with o r n)).prefix ≡ n.code.prefix)
-prefix_by a n None r f = inl refl
-prefix_by a n (Some v) None f = absurd (both_ways false refl f)
-prefix_by a n (Some v) (Some right) f = inr refl
+prefix_by a n o r f = grind arith
 
 -- where no place is taken, nothing clashes
 none_clashes : (prefix : Prefix) (stock : ℕ) (ls : List Place) → ((j : ℕ) (l : Line) → get_or ls j Free ≡ Taken l → ⊥) → any_of (clashes prefix stock) ls ≡ false

@@ -45,8 +45,7 @@ module _ {f : Place → Place} {g : Line → Line} (changes : Changes f g) where
   taken_map ls j l e = place_map ls j ∙ (ap f e ∙ changes.taken l)
 
   was_free : (x : Place) → f x ≡ Free → x ≡ Free
-  was_free Free e = refl
-  was_free (Taken l) e = not_both (g l) (sym e ∙ changes.taken l)
+  was_free x e = grind (arith, changes.free, changes.taken)
 
   pub free_before_map : (ls : List Place) (j : ℕ) → get_or (map f ls) j Free ≡ Free → get_or ls j Free ≡ Free
   free_before_map ls j e = was_free (get_or ls j Free) (sym (place_map ls j) ∙ e)

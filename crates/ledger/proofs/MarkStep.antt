@@ -24,7 +24,7 @@ use Rattle.ledger.proofs.Sums.{total_map, total_where, perm_map, perm_from}
 use Rattle.ledger.proofs.Found.{Live, accepted, live}
 use Rattle.ledger.proofs.Views.{view_amend, taken_is}
 use Rattle.ledger.proofs.Apart.{names_amend, stocks_amend, free_before}
-use Rattle.ledger.proofs.Gains.{Gains, no_gain, open_gained, row_gained, equity_gained, total_gained, well_gained, by_lots, none_in_all}
+use Rattle.ledger.proofs.Gains.{Gains, open_gained, row_gained, equity_gained, total_gained, well_gained, by_lots, none_in_all}
 use Rattle.ledger.proofs.Listed.{nameless_set}
 use Rattle.ledger.proofs.Well.{Well, Holds, pick}
 

@@ -29,9 +29,6 @@ pub adjusts_places : (a : Answers) (day : ℕ) (event : Event) → Changes (plac
 adjusts_places a day event = record { free = refl; taken = λ l. refl }
 
 -- a line that has no name expires on day 0, and so an event leaves it as it is
-not_after : (day : ℕ) (b : Bool) → (b && ltb day 0) ≡ false
-not_after day b = grind arith
-
 pub unnamed_stays : (a : Answers) (day : ℕ) (event : Event) (l : Line) → l.terms.series ≡ no_series → (line_after a day event l).terms.series ≡ no_series
 unnamed_stays a day event l e = grind arith
 
@@ -39,10 +36,7 @@ unnamed_stays a day event l e = grind arith
 then_not : (x y : Bool) → (x && y) ≡ false → x ≡ true → y ≡ false
 then_not x y e h = grind arith
 
--- a line clashes by its prefix and stock alone, and not with itself
-same_clash : (x x' z : Line) → x'.terms.series.prefix ≡ x.terms.series.prefix → x'.terms.stock ≡ x.terms.stock → by_stock x' (Taken z) ≡ by_stock x (Taken z)
-same_clash x x' z p s = ap₂ (λ (p : Prefix) (s : ℕ). clashes p s (Taken z)) p s
-
+-- a line does not clash with itself
 self_clash : (l : Line) → by_stock l (Taken l) ≡ false
 self_clash l = grind (arith, prefix_self)
 

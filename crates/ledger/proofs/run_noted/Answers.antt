@@ -17,8 +17,8 @@ loop-i-preserved g c =
     let i = c.loop-i.i in
     let call = get_or calls i (Opening 0 0) in
     let x = c.err-refusal.result in
-    let is : outcome_number x ≡ refusal a (run a empty (take i calls)) call =
-    ap outcome_number c.err-refusal.ensures.value ∙ (number_noted c.make.result ∙ (c.make.ensures.refusal ∙ ap (λ (u : Table). refusal a u call) c.loop-i.invariant.0)) in
+    let number = number_noted c.make.result in
+    let is : outcome_number x ≡ refusal a (run a empty (take i calls)) call = cc (c.err-refusal.ensures.value, c.make.ensures.refusal, c.loop-i.invariant.0) in
     let set_so : c.if-i-given.given ≡ set c.loop-i.given i x =
     elim c.if-i-given.branch [ then-i-given w ↦ w.given-is | else-i-given w ↦ w.given-is ∙ sym (set_past c.loop-i.given i x w.if-i-given.false) ] in (
       step_is a c.loop-i.book.table c.make.new.self.table _ call _ c.make.ensures.refusal c.make.ensures.after c.loop-i.invariant.0
