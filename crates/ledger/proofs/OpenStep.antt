@@ -45,14 +45,17 @@ module _ (a : Answers) (t : Table) (g : Ledger) (day n : ℕ) (h : Holds a t g) 
   abbrev new : List Account
   new = set old t.count (new_account n)
 
+  passes : (i : ℕ) → (get_or (opening_refusals t day n) i (0, false)).1 ≡ false
+  passes i = accepted (opening_refusals t day n) i refl ok
+
   above : 1 ≤ n
-  above = at_least_one n (or_parts (not (is_day day)) (not (is_number n)) (accepted (opening_refusals t day n) 0 refl ok)).1
+  above = at_least_one n (or_parts (not (is_day day)) (not (is_number n)) (passes 0)).1
 
   absent : any_of (numbered n) old ≡ false
-  absent = nowhere (numbered n) old (not-false (missing (found_account t n)) (accepted (opening_refusals t day n) 2 refl ok))
+  absent = nowhere (numbered n) old (not-false (missing (found_account t n)) (passes 2))
 
   room : t.count < rows
-  room = leb-false rows t.count (accepted (opening_refusals t day n) 3 refl ok)
+  room = leb-false rows t.count (passes 3)
 
   within : t.count < length old
   within = let r = room in omega (arith, h.well.accounts)

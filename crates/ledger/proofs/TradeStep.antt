@@ -96,27 +96,24 @@ module _ (a : Answers) (t : Table) (g : Ledger) (day : ℕ) (name : Name) (b s p
   abbrev new : List Account
   new = set mid is S
 
-  -- what was asked for is there
+  -- no condition of a refusal holds, and what was asked for is there
+  passes : (i : ℕ) → (get_or (trade_refusals a t day name b s price n) i (0, false)).1 ≡ false
+  passes i = accepted (trade_refusals a t day name b s price n) i refl ok
+
   parties : (1 ≤ b) × (1 ≤ s)
   parties =
-      let sizes = not (is_price price) || not (is_lots n) in
-      let sellers = not (is_number s) || sizes in
-      let buyers = not (is_number b) || sellers in
-      let q : trade_outside day name b s price n ≡ false = accepted (trade_refusals a t day name b s price n) 1 refl ok in
-      let days = (or_parts (not (is_day day)) (not (is_day name.expiry) || buyers) q).1 in
-      let ends = (or_parts (not (is_day name.expiry)) buyers days).1 in
-      let buyer = or_parts (not (is_number b)) sellers ends in
-      (at_least_one b buyer.0, at_least_one s (or_parts (not (is_number s)) sizes buyer.1).0)
+      let q : trade_outside day name b s price n ≡ false = passes 1 in
+      (at_least_one b (grind arith), at_least_one s (grind arith))
 
   apart : b ≡ s → ⊥
-  apart = eqb-false b s (accepted (trade_refusals a t day name b s price n) 3 refl ok)
+  apart = eqb-false b s (passes 3)
 
   found : Live t k
-  found = live t k (accepted (trade_refusals a t day name b s price n) 5 refl ok)
+  found = live t k (passes 5)
 
   both_open : (missing (found_account t b) ≡ false) × (missing (found_account t s) ≡ false)
   both_open =
-      or_parts (missing (found_account t b)) (missing (found_account t s)) (accepted (trade_refusals a t day name b s price n) 6 refl ok)
+      or_parts (missing (found_account t b)) (missing (found_account t s)) (passes 6)
 
   buyer : Open t b
   buyer = open_row t b both_open.0
