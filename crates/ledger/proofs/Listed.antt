@@ -1,7 +1,7 @@
 -- A listed line has the prefix of its call, unless the family cannot read its standard letter: then
 -- no line has a name, and so there is one at most.
-use Rattle.std.proofs.Common.{◌≡◌, ℕ, suc, true, false, ◌⊎◌, List, [], ◌∷◌, map, get_or, set, Some, None, Option, sym, refl, ap, ◌∙◌, subst, inl, inr, ⊎_elim, arith}
-use Rattle.std.proofs.lemmas.Bool.{and_parts, both_ways, eqb-true, cond-true}
+use Rattle.std.proofs.Common.{◌≡◌, ℕ, suc, true, false, ◌⊎◌, List, [], ◌∷◌, map, get_or, set, Some, None, Option, sym, refl, ap, ◌∙◌, subst, ⊎_elim, arith}
+use Rattle.std.proofs.lemmas.Bool.{and_parts, cond-true}
 use Rattle.lookup.specs.Seek.{any_of}
 use Rattle.terms.specs.Names.{is_prefix, right_of}
 use Rattle.terms.specs.Family.{Answers}

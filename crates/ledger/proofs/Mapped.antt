@@ -1,5 +1,5 @@
 -- The lines of a book, each changed where it stands: a free place stays free and a live line live.
-use Rattle.std.proofs.Common.{◌≡◌, ℕ, suc, Bool, true, false, cond, not, ◌&&◌, ◌||◌, eqb, List, [], ◌∷◌, map, get_or, pos, ◌*ℤ◌, sym, refl, ap, ◌∙◌, subst, ap₂, arith}
+use Rattle.std.proofs.Common.{◌≡◌, ℕ, suc, Bool, false, cond, not, ◌&&◌, ◌||◌, eqb, List, [], ◌∷◌, map, get_or, pos, ◌*ℤ◌, sym, refl, ap, ◌∙◌, subst, ap₂, arith}
 use mathlib.Core.Path.{transport, transport⁻¹, fun_ext}
 use Rattle.std.proofs.lemmas.Bool.{or_parts, or_from}
 use Rattle.lookup.specs.Seek.{any_of}
@@ -13,7 +13,7 @@ use Rattle.ledger.specs.Ledger.{Entry, total, where_so}
 use Rattle.ledger.specs.Agreement.{view_from, carry_worth, NamesDiffer, StocksAgree}
 use Rattle.ledger.proofs.Sums.{total_ext, total_map}
 use Rattle.ledger.proofs.At.{map_at}
-use Rattle.ledger.proofs.Views.{entry, not_both}
+use Rattle.ledger.proofs.Views.{entry}
 use Rattle.ledger.proofs.Apart.{Apart, by_name, names_are, by_stock, stocks_are}
 
 -- a line stands in one of the places

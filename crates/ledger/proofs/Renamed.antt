@@ -1,7 +1,7 @@
 -- The names, prefixes and stocks of the lines after an event: they stay apart where the event was not
 -- refused.
-use Rattle.std.proofs.Common.{◌≡◌, ℕ, zero, suc, ◌+◌, Bool, true, false, cond, not, ◌&&◌, ◌||◌, eqb, ltb, List, [], ◌∷◌, map, sym, refl, ap, ◌∙◌, ap₂, arith}
-use Rattle.std.proofs.lemmas.Bool.{and_parts, or_parts, not-false, not_from_false, eqb-true, eq-eqb, cond-true, cond-false, le-ltb}
+use Rattle.std.proofs.Common.{◌≡◌, ℕ, zero, suc, ◌+◌, Bool, true, false, cond, not, ◌&&◌, List, [], ◌∷◌, map, sym, refl, ap, ◌∙◌, ap₂, arith}
+use Rattle.std.proofs.lemmas.Bool.{not_from_false, cond-false}
 use Rattle.lookup.specs.Seek.{any_of}
 use Rattle.terms.specs.Events.{no_successor}
 use Rattle.terms.specs.Family.{Answers}
@@ -9,7 +9,7 @@ use Rattle.terms.specs.Adjust.{takes_in, next_series}
 use Rattle.terms.specs.declared.code.Prefix.{Prefix}
 use Rattle.terms.specs.declared.code.Series.{Series}
 use Rattle.terms.specs.declared.event.Event.{Event}
-use Rattle.rows.specs.Rows.{same_prefix, same_series, no_series}
+use Rattle.rows.specs.Rows.{same_series, no_series}
 use Rattle.rows.specs.Listing.{clashes}
 use Rattle.rows.specs.Adjustment.{contradicts, bears, meets, adjusted_line, place_adjusted}
 use Rattle.rows.specs.declared.table.Line.{Line}
@@ -19,7 +19,7 @@ use Rattle.ledger.specs.Agreement.{NamesDiffer, StocksAgree}
 use Rattle.ledger.proofs.SameSeries.{prefix_is, prefix_self, series_from, series_turn, other_series, not_series}
 use Rattle.ledger.proofs.Views.{not_both, none_taken}
 use Rattle.ledger.proofs.Apart.{by_name, by_stock, stock_turn}
-use Rattle.ledger.proofs.Mapped.{Among, Changes, cond_kept, if_passes, names_map, stocks_map}
+use Rattle.ledger.proofs.Mapped.{Among, Changes, if_passes, names_map, stocks_map}
 
 -- what becomes of a line
 abbrev pub line_after : Answers → ℕ → Event → Line → Line

@@ -1,7 +1,7 @@
 -- Laws of the integers, and of amounts under a test.
-use Rattle.std.proofs.Common.{◌≡◌, ℕ, ◌+◌, ◌*◌, Bool, true, false, cond, ℤ, pos, negsuc, ◌+ℤ◌, ◌-ℤ◌, ◌*ℤ◌, neg_ℤ, sym, refl, ap, ◌∙◌, ap₂, add-mul, arith}
+use Rattle.std.proofs.Common.{◌≡◌, ℕ, ◌+◌, ◌*◌, Bool, cond, ℤ, pos, ◌+ℤ◌, ◌-ℤ◌, ◌*ℤ◌, neg_ℤ, ap, add-mul, arith}
 use lib.IntN.{*ℤ_comm}
-use borrow.Author.Differences.{up, down, sum_is_lem, product_is, same_in, neg_is}
+use borrow.Author.Differences.{up, down, sum_is_lem, product_is, same_in}
 use Rattle.std.proofs.lemmas.Int.{ints}
 
 -- sums with nothing

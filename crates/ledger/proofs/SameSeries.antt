@@ -1,9 +1,8 @@
 -- The test of two series is equality.
-use Rattle.std.proofs.Common.{◌≡◌, ℕ, Bool, true, false, ◌&&◌, eqb, sym, refl, ap, ◌∙◌, subst, ap₂, ⊎_elim, arith}
-use Rattle.std.proofs.lemmas.Bool.{and_parts, and_from, eqb-true, eq-eqb, ne_eqb, cases_eq, cases_Bool, both_ways, false_from_ne_true}
+use Rattle.std.proofs.Common.{◌≡◌, ℕ, true, false, eqb, arith}
+use Rattle.std.proofs.lemmas.Bool.{both_ways, false_from_ne_true}
 use Rattle.terms.specs.Names.{right_number}
 use Rattle.terms.specs.declared.right.Right.{Right}
-use Rattle.terms.specs.declared.right.Right.TheVariants.{Without, Call, Put}
 use Rattle.terms.specs.declared.code.Prefix.{Prefix}
 use Rattle.terms.specs.declared.code.Series.{Series}
 use Rattle.rows.specs.Rows.{same_prefix, same_series}

@@ -1,10 +1,10 @@
 -- Sums over lists.
-use Rattle.std.proofs.Common.{◌≡◌, ℕ, zero, suc, ◌<◌, Bool, true, false, cond, List, [], ◌∷◌, map, length, get_or, set, replicate, ℤ, pos, ◌+ℤ◌, ◌*ℤ◌, sym, refl, ap, ◌∙◌, subst, ap₂, arith}
+use Rattle.std.proofs.Common.{◌≡◌, ℕ, zero, suc, ◌<◌, Bool, cond, List, [], ◌∷◌, map, length, get_or, set, replicate, ℤ, pos, ◌+ℤ◌, ◌*ℤ◌, sym, refl, ap, ◌∙◌, subst, ap₂, arith}
 use lib.IntN.{zero-*ℤ}
 use Rattle.std.proofs.lemmas.Int.{ints}
 use Rattle.ledger.specs.Ledger.{total}
 use Rattle.ledger.specs.Agreement.{Perm, none, keep, swap, join}
-use Rattle.ledger.proofs.Ring.{plus_zero, first_alone, second_alone, add_mulℤ}
+use Rattle.ledger.proofs.Ring.{first_alone, second_alone, add_mulℤ}
 
 module _ {X : Type 0} where
   -- of functions with equal values, of a sum and of a multiple

@@ -1,8 +1,7 @@
 -- What every run keeps of its table, besides balance and agreement.
-use Rattle.std.proofs.Common.{◌≡◌, ℕ, ◌<◌, ◌≤◌, ◌⊎◌, List, map, length, get_or, take, set, ℤ, pos, sym, refl, ap, ◌∙◌, subst, inl, inr, arith}
+use Rattle.std.proofs.Common.{◌≡◌, ℕ, ◌<◌, ◌≤◌, List, map, length, get_or, take, set, ℤ, pos, sym, refl, ap, ◌∙◌, arith}
 use Rattle.std.proofs.lemmas.Grind.{common_steps}
-use Rattle.std.proofs.lemmas.List.{get_or-set_same, get_or-set_other, take-map}
-use Rattle.std.proofs.lemmas.Bool.{cases_eq}
+use Rattle.std.proofs.lemmas.List.{take-map}
 use Rattle.terms.specs.declared.code.Series.{Series}
 use Rattle.terms.specs.Family.{Answers}
 use Rattle.rows.specs.Rows.{places, rows, lots_in, no_account, place, line_at, account_at}

@@ -1,7 +1,7 @@
 -- The lines but for that of a name: their order, sums over them, and the view once the line's place
 -- is free.
-use Rattle.std.proofs.Common.{◌≡◌, ℕ, zero, suc, ◌+◌, ◌<◌, Bool, true, false, cond, List, [], ◌∷◌, get_or, set, ℤ, pos, ◌+ℤ◌, Some, sym, refl, ap, ◌∙◌, subst, ap₂, arith}
-use Rattle.std.proofs.lemmas.Bool.{or_parts, cond-true, cond-false}
+use Rattle.std.proofs.Common.{◌≡◌, ℕ, suc, ◌+◌, ◌<◌, Bool, true, false, cond, List, [], ◌∷◌, get_or, set, ℤ, pos, ◌+ℤ◌, Some, sym, refl, ◌∙◌, ap₂, arith}
+use Rattle.std.proofs.lemmas.Bool.{cond-true, cond-false}
 use Rattle.std.proofs.lemmas.Int.{ints}
 use Rattle.lookup.specs.Seek.{any_of}
 use Rattle.terms.specs.declared.code.Series.{Series}

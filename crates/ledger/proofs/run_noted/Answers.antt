@@ -1,9 +1,8 @@
 use Rattle.std.proofs.Common.{◌≡◌, get_or, set, take, sym, ap, ◌∙◌}
 use Rattle.std.proofs.lemmas.List.{take_all, set_past}
 use Rattle.rows.specs.Calls.{empty, run, refusal}
-use Rattle.rows.specs.declared.table.Table.{Table}
 use Rattle.rows.specs.declared.call.Call.TheVariants.{Opening}
-use Rattle.ledger.specs.Runs.{Noted, outcome_number, numbers_given}
+use Rattle.ledger.specs.Runs.{outcome_number}
 use Rattle.ledger.proofs.Main.{run_more, step_is}
 use Rattle.ledger.proofs.Kept.{promises}
 use Rattle.ledger.proofs.Noting.{number_noted, noted_more}
