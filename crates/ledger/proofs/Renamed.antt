@@ -46,16 +46,9 @@ stocks_among [] u x y m n = not_both x m.1
 stocks_among (Free ∷ ls) u x y (zero, e) n = not_both x e
 stocks_among (Free ∷ ls) u x y (suc i, e) (zero, q) = not_both y q
 stocks_among (Free ∷ ls) u x y (suc i, e) (suc j, q) = stocks_among ls u x y (i, e) (j, q)
-stocks_among (Taken z ∷ ls) u x y (zero, e) (zero, q) =
-    let x_is : z ≡ x = cc in
-    let y_is : z ≡ y = cc in
-    ap₂ (λ (k l : Line). by_stock k (Taken l)) (sym x_is) (sym y_is) ∙ self_clash z
-stocks_among (Taken z ∷ ls) u x y (zero, e) (suc j, q) =
-    let x_is : x ≡ z = cc in
-    ap (λ (l : Line). by_stock l (Taken y)) x_is ∙ none_taken (by_stock z) ls j y u.0 q
-stocks_among (Taken z ∷ ls) u x y (suc i, e) (zero, q) =
-    let y_is : y ≡ z = cc in
-    stock_turn x y ∙ (ap (λ (l : Line). by_stock l (Taken x)) y_is ∙ none_taken (by_stock z) ls i x u.0 e)
+stocks_among (Taken z ∷ ls) u x y (zero, e) (zero, q) = cc (self_clash z)
+stocks_among (Taken z ∷ ls) u x y (zero, e) (suc j, q) = cc (none_taken (by_stock z) ls j y u.0 q)
+stocks_among (Taken z ∷ ls) u x y (suc i, e) (zero, q) = cc (none_taken (by_stock z) ls i x u.0 e, stock_turn x y)
 stocks_among (Taken z ∷ ls) u x y (suc i, e) (suc j, q) = stocks_among ls u.1 x y (i, e) (j, q)
 
 -- lines of one stock that do not clash have one prefix
