@@ -79,17 +79,14 @@ module _ {a : Answers} (t : Table) (g : Ledger) (h : Holds a t g) where
 
   no_entry : (k : Series) → missing (found_line t k) ≡ true → entry_named k g.lines ≡ None
   no_entry k m =
-      first_none k g.lines
-      (sym (any_perm (is_named k) h.agrees.lines) ∙ (view_any k t.accounts 0 t.lines ∙ nowhere (holds (Some k)) t.lines m))
+      first_none k g.lines (cc (any_perm (is_named k) h.agrees.lines, view_any k t.accounts 0 t.lines, nowhere (holds (Some k)) t.lines m))
 
   terms_by : (k : Series) (b : Bool) → missing (found_line t k) ≡ b → at_found (λ j. (line_at t j).terms) (found_line t k) ≡ entry_terms (entry_named k g.lines)
   terms_by k true m = at_none (λ j. (line_at t j).terms) (found_line t k) m ∙ sym (ap entry_terms (no_entry k m))
   terms_by k false m = at_some (λ j. (line_at t j).terms) places (found_line t k) m ∙ sym (ap entry_terms (entry_is k m))
 
   lots_by : (k : Series) (n : ℕ) → 1 ≤ n → missing (found_line t k) ≡ false → missing (found_account t n) ≡ false → lots_in (place t k) (account_at t (row t n)) ≡ entry_lots (entry_named k g.lines) n
-  lots_by k n above m o =
-      sym (of_number t n above h.well.numbers (open_row t n o) (lots_in (place t k)))
-      ∙ sym (ap (λ (e : Option Entry). entry_lots e n) (entry_is k m))
+  lots_by k n above m o = cc (of_number t n above h.well.numbers (open_row t n o) (lots_in (place t k)), entry_is k m)
 
   equity_by : (n : ℕ) → 1 ≤ n → missing (found_account t n) ≡ false → (account_at t (row t n)).equity ≡ g.sums n +ℤ total (carry_worth n) g.lines
   equity_by n above o = sym (of_number t n above h.well.numbers (open_row t n o) (λ r. r.equity)) ∙ h.agrees.equity n

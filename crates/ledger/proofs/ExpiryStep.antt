@@ -85,9 +85,7 @@ module _ (a : Answers) (t : Table) (g : Ledger) (day : ℕ) (name : Name) (price
   final_is n = pick t g k h found (λ e. e.lots n *ℤ pos (final_worth a e.line.terms price close))
 
   gain_is : (n : ℕ) → total (if_number n (λ r. lots_in p r *ℤ d)) old ≡ total (settles a k price close n) g.lines -ℤ total (if_so (is_named k) (carry_worth n)) g.lines
-  gain_is n =
-      by_lots p d old n
-      ∙ (mul_subℤ (lots_of old p n) (pos v) (pos l.carry) ∙ sym (ap₂ (λ (x y : ℤ). x -ℤ y) (final_is n) (carry_is n)))
+  gain_is n = cc (by_lots p d old n, mul_subℤ (lots_of old p n) (pos v) (pos l.carry), final_is n, carry_is n)
 
   expiry_agrees : Agrees (expiry_table a t day name price close) (post a g (Expiry day name price close))
   expiry_agrees =

@@ -71,4 +71,4 @@ module _ (p : ℕ) (d : ℤ) (rs : List Account) where
       ∙ total_mul (if_number n (lots_in p)) d rs
 
   pub none_in_all : total (lots_in p) rs ≡ pos 0 → total (λ r. lots_in p r *ℤ d) rs ≡ pos 0
-  none_in_all e = total_mul (lots_in p) d rs ∙ (ap (λ (z : ℤ). z *ℤ d) e ∙ zero-*ℤ d)
+  none_in_all e = cc (total_mul (lots_in p) d rs, zero-*ℤ d)

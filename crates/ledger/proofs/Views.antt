@@ -37,9 +37,7 @@ not_held k ls i l n e = not_series l.terms.series k (none_taken (holds (Some k))
 
 -- a line before the one of a name has another name
 pub other_name : (k : Series) (x : Line) (ls : List Place) (i : ℕ) (l : Line) → any_of (holds (Some x.terms.series)) ls ≡ false → get_or ls i Free ≡ Taken l → l.terms.series ≡ k → same_series x.terms.series k ≡ false
-other_name k x ls i l n e named =
-    series_turn x.terms.series k
-    ∙ (ap (λ (s : Series). same_series s x.terms.series) (sym named) ∙ none_taken (holds (Some x.terms.series)) ls i l n e)
+other_name k x ls i l n e named = cc (series_turn x.terms.series k, none_taken (holds (Some x.terms.series)) ls i l n e)
 
 -- the way through the places to the line of a name: what holds there, and of a place before another
 -- line or a free place if it holds after it

@@ -43,8 +43,7 @@ number_at = map_at (λ r. r.number) no_account 0 refl
 
 -- rows with the same numbers have the same open accounts
 pub same_open : (c : ℕ) (rs rs' : List Account) → numbers rs' ≡ numbers rs → map (λ (r : Account). r.number) (take c rs') ≡ map (λ (r : Account). r.number) (take c rs)
-same_open c rs rs' e =
-    sym (take-map (λ (r : Account). r.number) c rs') ∙ (ap (take c) e ∙ take-map (λ (r : Account). r.number) c rs)
+same_open c rs rs' e = cc (take-map (λ (r : Account). r.number) c rs', take-map (λ (r : Account). r.number) c rs)
 
 -- a sum over the ledger's entries of a name is that of the line
 pub pick : {a : Answers} (t : Table) (g : Ledger) (k : Series) → Holds a t g → Live t k → (f : Entry → ℤ) → total (if_so (is_named k) f) g.lines ≡ f (entry t.accounts (place t k) (line_at t (place t k)))

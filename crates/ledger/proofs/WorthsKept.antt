@@ -18,9 +18,7 @@ module _ (a : Answers) (law : Law a) where
   lots_kept day e t j l at taken =
       record {
         line = adjusted_line a day e l;
-        stands =
-            taken_map (adjusts_places a day e) t.lines j l at
-            ∙ ap (λ (b : Bool). Taken (cond b (adjusted_line a day e l) l)) taken;
+        stands = cc (taken_map (adjusts_places a day e) t.lines j l at);
         worth = worth_kept a law e l.terms;
       }
 
