@@ -122,9 +122,7 @@ module _ (a : Answers) (t : Table) (g : Ledger) (day : ℕ) (name : Name) (price
 
   free_at : (j : ℕ) → (j ≡ p) ⊎ (j ≡ p → ⊥) → get_or (set t.lines p Free) j Free ≡ Free → (i : ℕ) → lots_in j (get_or new i no_account) ≡ pos 0
   free_at j (inl q) e i = subst (λ (m : ℕ). lots_in m (get_or new i no_account) ≡ pos 0) (sym q) (none_here i)
-  free_at j (inr ne) e i =
-      ap (lots_in j) (row_at i)
-      ∙ (lots_there j ne (account_at t i) ∙ h.well.orderly.free j (sym (get_or-set_other t.lines p j Free Free ne) ∙ e) i)
+  free_at j (inr ne) e i = cc (row_at i, lots_there j ne (account_at t i), h.well.orderly.free j (sym (get_or-set_other t.lines p j Free Free ne) ∙ e) i)
 
   expiry_well : Well a (expiry_table a t day name price close)
   expiry_well =

@@ -54,10 +54,8 @@ module _ {F : Account → Account} {gain : Account → ℤ} (gains : Gains F gai
       record {
         lines = lines;
         accounts = length-map t.accounts F ∙ w.accounts;
-        lots = λ i b.
-            ap (λ (r : Account). length r.lots) (row_gained t.accounts i) ∙ (gains.lots (account_at t i) ∙ w.lots i b);
-        spare = λ i c b.
-            row_gained t.accounts i ∙ (ap F (w.spare i c b) ∙ gains.unheld (new_account 0) (λ j. no_lots j 0));
+        lots = λ i b. cc (row_gained t.accounts i, gains.lots (account_at t i), w.lots i b);
+        spare = λ i c b. cc (row_gained t.accounts i, w.spare i c b, gains.unheld (new_account 0) (λ j. no_lots j 0));
         orderly = orderly;
         nameless = nameless;
         numbers = subst (λ (ns : List ℕ). NumbersDiffer ns) (sym (numbers_gained t.accounts)) w.numbers;

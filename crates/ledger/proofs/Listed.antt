@@ -47,8 +47,7 @@ module _ (a : Answers) (n : Name) (standard : is_standard a n.code ≡ true) whe
   level_is : code_level a n.code ≡ standard_level a
   level_is =
       let q = and_parts (is_prefix n.code.prefix) (is_letter (a.letter 0) n.code.letter) standard in
-      cond-true (is_prefix n.code.prefix) (a.level n.code.letter) None q.0
-      ∙ letter_level a (a.letter 0) n.code.letter q.1
+      cc (cond-true (is_prefix n.code.prefix) (a.level n.code.letter) None q.0, letter_level a (a.letter 0) n.code.letter q.1)
 
   pub nameless : standard_level a ≡ None → series_of a n ≡ no_series
   nameless e = ap (λ (o : Option ℕ). series_or (series_with o (right_of n.right) n)) (level_is ∙ e)
@@ -75,9 +74,7 @@ nameless_set a ls p x new rest e j l =
 module _ {f : Place → Place} {g : Line → Line} (changes : Changes f g) (keeps : (l : Line) → l.terms.series ≡ no_series → (g l).terms.series ≡ no_series) where
   line_kept : (x : Place) (m : Line) → ((l : Line) → x ≡ Taken l → l.terms.series ≡ no_series) → f x ≡ Taken m → m.terms.series ≡ no_series
   line_kept Free m rest e = not_both m (sym changes.free ∙ e)
-  line_kept (Taken l) m rest e =
-      let q : Taken (g l) ≡ Taken m = sym (changes.taken l) ∙ e in
-      ap (λ (x : Line). x.terms.series) (sym (taken_is (g l) m q)) ∙ keeps l (rest l refl)
+  line_kept (Taken l) m rest e = cc (changes.taken l, keeps l (rest l refl))
 
   pub nameless_map : (a : Answers) (ls : List Place) → Nameless a ls → Nameless a (map f ls)
   nameless_map a ls rest e j m q = line_kept (get_or ls j Free) m (rest e j) (sym (place_map changes ls j) ∙ q)

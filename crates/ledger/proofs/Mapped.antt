@@ -33,9 +33,7 @@ module _ {f : Place → Place} {g : Line → Line} (changes : Changes f g) where
   pub view_map : (rows : List Account) (j : ℕ) (ls : List Place) → view_from rows j (map f ls) ≡ map (with_line g) (view_from rows j ls)
   view_map rows j [] = refl
   view_map rows j (Free ∷ ls) = ap (λ (x : Place). view_from rows j (x ∷ map f ls)) changes.free ∙ view_map rows (suc j) ls
-  view_map rows j (Taken l ∷ ls) =
-      ap (λ (x : Place). view_from rows j (x ∷ map f ls)) (changes.taken l)
-      ∙ ap (λ (es : List Entry). entry rows j (g l) ∷ es) (view_map rows (suc j) ls)
+  view_map rows j (Taken l ∷ ls) = cc (changes.taken l, view_map rows (suc j) ls)
 
   -- what stands in a place afterwards, and what stood there
   pub place_map : (ls : List Place) (j : ℕ) → get_or (map f ls) j Free ≡ f (get_or ls j Free)

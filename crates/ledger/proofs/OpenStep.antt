@@ -90,10 +90,7 @@ module _ (a : Answers) (t : Table) (g : Ledger) (day n : ℕ) (h : Holds a t g) 
   opening_agrees : Agrees (opening_table t day n) (post a g (Opening day n))
   opening_agrees =
       record {
-        accounts =
-            ap numbers (take_more_set old t.count (new_account n) within)
-            ∙ (map_push (λ (r : Account). r.number) (take t.count old) (new_account n)
-            ∙ ap (λ (ns : List ℕ). ns ++ (n ∷ [])) h.agrees.accounts);
+        accounts = cc (take_more_set old t.count (new_account n) within, map_push (λ (r : Account). r.number) (take t.count old) (new_account n), h.agrees.accounts);
         lines = perm_from (view_ext old new lots_same 0 t.lines) h.agrees.lines;
         equity = λ m. equity_at m (eqb m n) refl;
       }

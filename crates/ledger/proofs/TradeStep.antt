@@ -48,9 +48,7 @@ traded_lots : (j p : ℕ) (z gain : ℤ) (r : Account) → p < length r.lots →
 traded_lots j p z gain r h b e = grind (arith, ints, common_steps)
 
 same_numbers : (rs : List Account) (i : ℕ) (r : Account) → r.number ≡ (get_or rs i no_account).number → numbers (set rs i r) ≡ numbers rs
-same_numbers rs i r e =
-    map-set (λ (r : Account). r.number) rs i r
-    ∙ (ap (set (numbers rs) i) (e ∙ sym (number_at rs i)) ∙ set-get_or (numbers rs) i 0)
+same_numbers rs i r e = cc (map-set (λ (r : Account). r.number) rs i r, number_at rs i, set-get_or (numbers rs) i 0)
 
 module _ (a : Answers) (t : Table) (g : Ledger) (day : ℕ) (name : Name) (b s price n : ℕ) (h : Holds a t g) (ok : first (trade_refusals a t day name b s price n) ≡ 0) where
   abbrev k : Series
@@ -130,7 +128,7 @@ module _ (a : Answers) (t : Table) (g : Ledger) (day : ℕ) (name : Name) (b s p
   s_mid = let i = seller.within in omega (arith, length-set old ib B)
 
   rows_apart : is ≡ ib → ⊥
-  rows_apart e = apart (sym buyer.number ∙ (ap (λ (i : ℕ). (account_at t i).number) (sym e) ∙ seller.number))
+  rows_apart e = apart (cc (buyer.number, seller.number))
 
   other_row : get_or mid is no_account ≡ rs
   other_row = get_or-set_other old ib is B no_account rows_apart
@@ -196,9 +194,7 @@ module _ (a : Answers) (t : Table) (g : Ledger) (day : ℕ) (name : Name) (b s p
   paid_is = pick t g k h found (λ e. pos n *ℤ pos (a.trade (lot_of e.line.terms) price))
 
   gain_is : (m : ℕ) → between b s gain m ≡ between b s (pos n) m *ℤ pos l.carry -ℤ between b s price_of m
-  gain_is m =
-      deal_split (eqb b m) (eqb s m) (pos n) (pos l.carry) (pos v)
-      ∙ ap (λ (z : ℤ). between b s (pos n) m *ℤ pos l.carry -ℤ between b s z m) (sym paid_is)
+  gain_is m = cc (deal_split (eqb b m) (eqb s m) (pos n) (pos l.carry) (pos v), paid_is)
 
   numbers_same : numbers new ≡ numbers old
   numbers_same = same_numbers mid is S (sym (ap (λ (r : Account). r.number) other_row)) ∙ same_numbers old ib B refl

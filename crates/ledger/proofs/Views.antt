@@ -108,9 +108,7 @@ module _ (rows rows' : List Account) (k : Series) (F : Entry → Entry) (P : ℕ
     (others : (i : ℕ) → (i ≡ P → ⊥) → lots_of rows' i ≡ lots_of rows i)
     (there : F (entry rows P l) ≡ entry rows' P l') where
   left : (j : ℕ) (x : Line) → same_series x.terms.series k ≡ false → (j ≡ P → ⊥) → entry rows' j x ≡ cond (is_named k (entry rows j x)) (F (entry rows j x)) (entry rows j x)
-  left j x n away =
-      ap (λ (f : ℕ → ℤ). record { line = x; lots = f }) (others j away)
-      ∙ sym (cond-false (same_series x.terms.series k) (F (entry rows j x)) (entry rows j x) n)
+  left j x n away = cc (others j away, cond-false (same_series x.terms.series k) (F (entry rows j x)) (entry rows j x) n)
 
   past : (j : ℕ) (ls : List Place) → any_of (holds (Some k)) ls ≡ false → P < j → view_from rows' j ls ≡ at_name k F (view_from rows j ls)
   past =

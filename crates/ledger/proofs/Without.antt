@@ -49,9 +49,7 @@ module _ (rows rows' : List Account) (k : Series) (P : ℕ) (l : Line)
     (named : l.terms.series ≡ k)
     (others : (i : ℕ) → (i ≡ P → ⊥) → lots_of rows' i ≡ lots_of rows i) where
   left : (j : ℕ) (x : Line) (es es' : List Entry) → same_series x.terms.series k ≡ false → (j ≡ P → ⊥) → es' ≡ without k es → entry rows' j x ∷ es' ≡ without k (entry rows j x ∷ es)
-  left j x es es' n away e =
-      ap₂ (λ (f : ℕ → ℤ) (es : List Entry). (record { line = x; lots = f }) ∷ es) (others j away) e
-      ∙ sym (cond-false (same_series x.terms.series k) (without k es) (entry rows j x ∷ without k es) n)
+  left j x es es' n away e = cc (others j away, cond-false (same_series x.terms.series k) (without k es) (entry rows j x ∷ without k es) n)
 
   past : (j : ℕ) (ls : List Place) → any_of (holds (Some k)) ls ≡ false → P < j → view_from rows' j ls ≡ without k (view_from rows j ls)
   past =
