@@ -98,9 +98,7 @@ module _ (a : Answers) (t : Table) (g : Ledger) (day : ℕ) (event : Event) (h :
         stocks =
             stocks_adjusted a day event t.lines h.well.orderly.stocks
             (accepted (adjustment_refusals a t day event) 7 refl ok);
-        free = λ j e i.
-            ap (lots_in j) (row_gained (credit_gains ds) old i)
-            ∙ h.well.orderly.free j (free_before_map (adjusts_places a day event) t.lines j e) i;
+        free = λ j e i. cc (row_gained (credit_gains ds) old i, h.well.orderly.free j (free_before_map (adjusts_places a day event) t.lines j e) i);
       })
 
   pub adjustment_holds : Holds a (adjustment_table a t day event) (post a g (Adjustment day event))

@@ -61,9 +61,11 @@ module _ (t : Table) (n : ℕ) (above : 1 ≤ n) (differ : NumbersDiffer (number
 
   of_number : (f : Account → ℤ) → total (if_number n f) t.accounts ≡ f (account_at t (row t n))
   of_number f =
-      total_one (if_number n f) no_account t.accounts (row t n) o.within
-      (λ i l ne. cond-false (eqb (account_at t i).number n) (f (account_at t i)) (pos 0) (ne_eqb (account_at t i).number n (other_number i ne)))
-      ∙ cond-true (eqb (account_at t (row t n)).number n) (f (account_at t (row t n))) (pos 0) (eq-eqb (account_at t (row t n)).number n o.number)
+      cc (
+        total_one (if_number n f) no_account t.accounts (row t n) o.within
+            (λ i l ne. cond-false (eqb (account_at t i).number n) (f (account_at t i)) (pos 0) (ne_eqb (account_at t i).number n (other_number i ne))),
+        cond-true (eqb (account_at t (row t n)).number n) (f (account_at t (row t n))) (pos 0) (eq-eqb (account_at t (row t n)).number n o.number),
+      )
 
 module _ {a : Answers} (t : Table) (g : Ledger) (h : Holds a t g) where
   -- the ledger's entry of a name is the line's
@@ -82,14 +84,14 @@ module _ {a : Answers} (t : Table) (g : Ledger) (h : Holds a t g) where
       first_none k g.lines (cc (any_perm (is_named k) h.agrees.lines, view_any k t.accounts 0 t.lines, nowhere (holds (Some k)) t.lines m))
 
   terms_by : (k : Series) (b : Bool) → missing (found_line t k) ≡ b → at_found (λ j. (line_at t j).terms) (found_line t k) ≡ entry_terms (entry_named k g.lines)
-  terms_by k true m = at_none (λ j. (line_at t j).terms) (found_line t k) m ∙ sym (ap entry_terms (no_entry k m))
-  terms_by k false m = at_some (λ j. (line_at t j).terms) places (found_line t k) m ∙ sym (ap entry_terms (entry_is k m))
+  terms_by k true m = cc (at_none (λ j. (line_at t j).terms) (found_line t k) m, no_entry k m)
+  terms_by k false m = cc (at_some (λ j. (line_at t j).terms) places (found_line t k) m, entry_is k m)
 
   lots_by : (k : Series) (n : ℕ) → 1 ≤ n → missing (found_line t k) ≡ false → missing (found_account t n) ≡ false → lots_in (place t k) (account_at t (row t n)) ≡ entry_lots (entry_named k g.lines) n
   lots_by k n above m o = cc (of_number t n above h.well.numbers (open_row t n o) (lots_in (place t k)), entry_is k m)
 
   equity_by : (n : ℕ) → 1 ≤ n → missing (found_account t n) ≡ false → (account_at t (row t n)).equity ≡ g.sums n +ℤ total (carry_worth n) g.lines
-  equity_by n above o = sym (of_number t n above h.well.numbers (open_row t n o) (λ r. r.equity)) ∙ h.agrees.equity n
+  equity_by n above o = cc (of_number t n above h.well.numbers (open_row t n o) (λ r. r.equity), h.agrees.equity n)
 
   -- a row that is not in use has no number above 0
   accounts_by : (n : ℕ) → 1 ≤ n → not (missing (found_account t n)) ≡ any_of (λ m. eqb m n) g.accounts

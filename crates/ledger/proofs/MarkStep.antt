@@ -101,8 +101,7 @@ module _ (a : Answers) (t : Table) (g : Ledger) (day : ℕ) (name : Name) (price
       (record {
         names = names_amend l l' refl t.lines p found.taken h.well.orderly.names;
         stocks = stocks_amend l l' refl t.lines p found.taken h.well.orderly.stocks;
-        free = λ j e i.
-            ap (lots_in j) (row_gained (mark_gains p d) old i) ∙ h.well.orderly.free j (free_before l' t.lines p j e) i;
+        free = λ j e i. cc (row_gained (mark_gains p d) old i, h.well.orderly.free j (free_before l' t.lines p j e) i);
       })
 
   pub mark_holds : Holds a (mark_table a t day name price) (post a g (Mark day name price))

@@ -48,9 +48,10 @@ same_open c rs rs' e = cc (take-map (λ (r : Account). r.number) c rs', take-map
 -- a sum over the ledger's entries of a name is that of the line
 pub pick : {a : Answers} (t : Table) (g : Ledger) (k : Series) → Holds a t g → Live t k → (f : Entry → ℤ) → total (if_so (is_named k) f) g.lines ≡ f (entry t.accounts (place t k) (line_at t (place t k)))
 pick {a} t g k h found f =
-    sym (total_perm (if_so (is_named k) f) h.agrees.lines)
-    ∙ view_pick t.accounts k f (place t k) (line_at t (place t k)) found.named
-    0 t.lines (place t k) h.well.orderly.names found.taken (omega arith)
+    cc (
+      total_perm (if_so (is_named k) f) h.agrees.lines,
+      view_pick t.accounts k f (place t k) (line_at t (place t k)) found.named 0 t.lines (place t k) h.well.orderly.names found.taken (omega arith),
+    )
 
 -- a new number keeps numbers different
 module _ (ns : List ℕ) (c n : ℕ) (within : c < length ns) (new : (j : ℕ) → get_or ns j 0 ≡ n → ⊥) (differ : NumbersDiffer ns) where
