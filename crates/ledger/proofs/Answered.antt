@@ -1,5 +1,5 @@
 -- What the questions answer is what the ledger has.
-use Rattle.std.proofs.Common.{◌≡◌, ℕ, suc, ◌+◌, ◌≤◌, Bool, true, false, not, ◌||◌, eqb, List, [], ◌∷◌, get_or, take, ℤ, pos, ◌+ℤ◌, Some, None, Option, sym, refl, ap, ◌∙◌, ⊎_elim, arith}
+use Rattle.std.proofs.Common.{◌≡◌, ℕ, suc, ◌+◌, ◌≤◌, Bool, true, false, not, ◌||◌, eqb, List, [], ◌∷◌, get_or, take, ℤ, pos, ◌+ℤ◌, Some, None, sym, refl, ap, ◌∙◌, ⊎_elim, arith}
 use Rattle.std.proofs.lemmas.Bool.{or_parts, both_ways, eq-eqb, ne_eqb, cond-true, cond-false, cases_Bool, not_from_false}
 use Rattle.lookup.specs.Seek.{any_of}
 use Rattle.terms.specs.Family.{Answers}

@@ -1,5 +1,5 @@
 -- A fixing keeps what holds.
-use Rattle.std.proofs.Common.{◌≡◌, ℕ, Bool, ℤ, ◌+ℤ◌, sym, refl, ap, ◌∙◌}
+use Rattle.std.proofs.Common.{◌≡◌, ℕ, Bool, refl, ◌∙◌}
 use Rattle.std.proofs.lemmas.List.{length-map}
 use Rattle.terms.specs.Family.{Answers}
 use Rattle.rows.specs.Fixing.{fixes, fixed_line, place_fixed, fixing_table}

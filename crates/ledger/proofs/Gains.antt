@@ -1,5 +1,5 @@
 -- Rows after every account has gained by its lots.
-use Rattle.std.proofs.Common.{◌≡◌, ℕ, cond, eqb, List, [], ◌∷◌, map, length, get_or, take, ℤ, pos, ◌+ℤ◌, ◌*ℤ◌, sym, refl, ap, ◌∙◌, subst, ap₂}
+use Rattle.std.proofs.Common.{◌≡◌, ℕ, cond, eqb, List, [], ◌∷◌, map, length, get_or, take, ℤ, pos, ◌+ℤ◌, ◌*ℤ◌, sym, refl, ◌∙◌, subst, ap₂}
 use lib.IntN.{zero-*ℤ}
 use Rattle.std.proofs.lemmas.List.{length-map}
 use Rattle.terms.specs.Family.{Answers}

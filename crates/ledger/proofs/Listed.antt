@@ -16,7 +16,7 @@ use Rattle.rows.specs.declared.table.Line.{Line}
 use Rattle.rows.specs.declared.table.Place.{Place}
 use Rattle.rows.specs.declared.table.Place.TheVariants.{Free, Taken}
 use Rattle.ledger.proofs.At.{set_at}
-use Rattle.ledger.proofs.Views.{not_both, taken_is, not_held}
+use Rattle.ledger.proofs.Views.{not_both, not_held}
 use Rattle.ledger.proofs.Mapped.{Changes, place_map}
 
 -- the level of a letter, where there is one, and of the standard one

@@ -13,7 +13,6 @@ use Rattle.ledger.specs.Ledger.{Entry, total, where_so}
 use Rattle.ledger.specs.Agreement.{view_from, carry_worth, NamesDiffer, StocksAgree}
 use Rattle.ledger.proofs.Sums.{total_ext, total_map}
 use Rattle.ledger.proofs.At.{map_at}
-use Rattle.ledger.proofs.Views.{entry}
 use Rattle.ledger.proofs.Apart.{Apart, by_name, names_are, by_stock, stocks_are}
 
 -- a line stands in one of the places

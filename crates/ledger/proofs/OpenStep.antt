@@ -1,5 +1,5 @@
 -- An accepted opening keeps what holds.
-use Rattle.std.proofs.Common.{◌≡◌, ℕ, suc, ◌<◌, ◌≤◌, Bool, true, false, cond, not, eqb, List, [], ◌∷◌, ◌++◌, length, get_or, take, set, ℤ, pos, ◌+ℤ◌, ◌*ℤ◌, sym, refl, ap, ◌∙◌, subst, ap₂, arith}
+use Rattle.std.proofs.Common.{◌≡◌, ℕ, suc, ◌<◌, ◌≤◌, Bool, true, false, cond, not, eqb, List, [], ◌∷◌, length, get_or, take, set, ℤ, pos, ◌+ℤ◌, sym, refl, ap, ◌∙◌, subst, ap₂, arith}
 use lib.IntN.{zero-*ℤ}
 use mathlib.Core.Path.{fun_ext}
 use Rattle.std.proofs.lemmas.List.{length-set, length-map, get_or-set_other, map-set, map_push, take_more_set}
@@ -35,8 +35,7 @@ none_numbered n f (r ∷ rs) e =
 no_worth : (rs : List Account) (n : ℕ) → ((j : ℕ) → lots_of rs j n ≡ pos 0) → (j : ℕ) (ls : List Place) → total (carry_worth n) (view_from rs j ls) ≡ pos 0
 no_worth rs n h j [] = refl
 no_worth rs n h j (Free ∷ ls) = no_worth rs n h (suc j) ls
-no_worth rs n h j (Taken l ∷ ls) =
-    ap₂ (λ (x y : ℤ). x +ℤ y) (ap (λ (z : ℤ). z *ℤ pos l.carry) (h j) ∙ zero-*ℤ (pos l.carry)) (no_worth rs n h (suc j) ls)
+no_worth rs n h j (Taken l ∷ ls) = cc (h j, zero-*ℤ (pos l.carry), no_worth rs n h (suc j) ls)
 
 module _ (a : Answers) (t : Table) (g : Ledger) (day n : ℕ) (h : Holds a t g) (ok : first (opening_refusals t day n) ≡ 0) where
   abbrev old : List Account

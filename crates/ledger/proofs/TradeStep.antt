@@ -168,7 +168,7 @@ module _ (a : Answers) (t : Table) (g : Ledger) (day : ℕ) (name : Name) (b s p
   here = fun_ext (λ m. deal_by m (lots_in p) (pos n) (b_lots p true (eq-eqb p p refl)) (s_lots p true (eq-eqb p p refl)))
 
   lost : S.equity ≡ rs.equity +ℤ neg_ℤ gain
-  lost = ap (λ (z : ℤ). rs.equity +ℤ z) (ap (λ (z : ℤ). pos n *ℤ z) (turned v l.carry) ∙ mul_negℤ (pos n) (change v l.carry))
+  lost = cc (turned v l.carry, mul_negℤ (pos n) (change v l.carry))
 
   equity_is : (m : ℕ) → equity_of new m ≡ equity_of old m +ℤ between b s gain m
   equity_is m = deal_by m (λ r. r.equity) gain refl lost
@@ -217,11 +217,8 @@ module _ (a : Answers) (t : Table) (g : Ledger) (day : ℕ) (name : Name) (b s p
 
   lots_balanced : (j : ℕ) (x : Bool) → eqb j p ≡ x → total (lots_in j) new ≡ pos 0
   lots_balanced j true e =
-      deal (lots_in j) (pos n) (neg_ℤ (pos n)) (b_lots j true e) (s_lots j true e)
-      ∙ ap₂ (λ (x y : ℤ). x +ℤ y) (h.balanced.lots j) (+ℤ_invr (pos n))
-  lots_balanced j false e =
-      deal (lots_in j) (pos 0) (pos 0) (b_lots j false e) (s_lots j false e)
-      ∙ ap (λ (x : ℤ). x +ℤ pos 0) (h.balanced.lots j)
+      cc (deal (lots_in j) (pos n) (neg_ℤ (pos n)) (b_lots j true e) (s_lots j true e), h.balanced.lots j, +ℤ_invr (pos n))
+  lots_balanced j false e = cc (deal (lots_in j) (pos 0) (pos 0) (b_lots j false e) (s_lots j false e), h.balanced.lots j)
 
   trade_balanced : Balanced (trade_table a t day name b s price n)
   trade_balanced =
@@ -243,8 +240,8 @@ module _ (a : Answers) (t : Table) (g : Ledger) (day : ℕ) (name : Name) (b s p
   free_at : (j : ℕ) → get_or t.lines j Free ≡ Free → (i : ℕ) → lots_in j (get_or new i no_account) ≡ pos 0
   free_at j e i =
       row_by (λ (r : Account). lots_in j r ≡ pos 0)
-      (b_lots j false (elsewhere j e) ∙ (sym (plus_zero (lots_in j rb)) ∙ h.well.orderly.free j e ib))
-      (s_lots j false (elsewhere j e) ∙ (sym (plus_zero (lots_in j rs)) ∙ h.well.orderly.free j e is))
+      (cc (b_lots j false (elsewhere j e), plus_zero (lots_in j rb), h.well.orderly.free j e ib))
+      (cc (s_lots j false (elsewhere j e), plus_zero (lots_in j rs), h.well.orderly.free j e is))
       i (h.well.orderly.free j e i)
 
   -- a row in use is not spare

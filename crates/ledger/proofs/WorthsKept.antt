@@ -1,11 +1,10 @@
 -- Every adjustment that a run accepts keeps the worth of a lot.
-use Rattle.std.proofs.Common.{ℕ, Bool, cond, List, [], ◌∷◌, ap, ◌∙◌}
+use Rattle.std.proofs.Common.{ℕ, List, [], ◌∷◌}
 use Rattle.terms.specs.Family.{Answers, Law}
 use Rattle.terms.specs.declared.event.Event.{Event}
 use Rattle.terms.proofs.WorthKept.{worth_kept}
 use Rattle.rows.specs.Adjustment.{adjusted_line}
 use Rattle.rows.specs.Calls.{step, after}
-use Rattle.rows.specs.declared.table.Place.TheVariants.{Taken}
 use Rattle.rows.specs.declared.table.Table.{Table}
 use Rattle.rows.specs.declared.call.Call.{Call}
 use Rattle.rows.specs.declared.call.Call.TheVariants.{Opening, Listing, Trade, Mark, Adjustment, Fixing, Expiry}
