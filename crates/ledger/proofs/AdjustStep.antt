@@ -61,10 +61,7 @@ module _ (a : Answers) (t : Table) (g : Ledger) (day : ℕ) (event : Event) (h :
 
   -- the rows' credits, by number and all together
   credit_sum : (n : ℕ) → total (if_number n (λ r. credit r.lots ds)) old ≡ total (booked a day event n) g.lines
-  credit_sum n =
-      credits_are (λ r. eqb r.number n) old ds
-      ∙ (spread_booked a day event old n 0 t.lines
-      ∙ total_perm (booked a day event n) h.agrees.lines)
+  credit_sum n = cc (credits_are (λ r. eqb r.number n) old ds, spread_booked a day event old n 0 t.lines, total_perm (booked a day event n) h.agrees.lines)
 
   none_credited : total (λ r. credit r.lots ds) old ≡ pos 0
   none_credited = credits_are (λ r. true) old ds ∙ spread_none (λ j. total (lots_in j) old) h.balanced.lots 0 ds
@@ -101,9 +98,7 @@ module _ (a : Answers) (t : Table) (g : Ledger) (day : ℕ) (event : Event) (h :
         stocks =
             stocks_adjusted a day event t.lines h.well.orderly.stocks
             (accepted (adjustment_refusals a t day event) 7 refl ok);
-        free = λ j e i.
-            ap (lots_in j) (row_gained (credit_gains ds) old i)
-            ∙ h.well.orderly.free j (free_before_map (adjusts_places a day event) t.lines j e) i;
+        free = λ j e i. cc (row_gained (credit_gains ds) old i, h.well.orderly.free j (free_before_map (adjusts_places a day event) t.lines j e) i);
       })
 
   pub adjustment_holds : Holds a (adjustment_table a t day event) (post a g (Adjustment day event))

@@ -1,5 +1,5 @@
 -- What the questions answer is what the ledger has.
-use Rattle.std.proofs.Common.{◌≡◌, ℕ, zero, suc, ◌+◌, ◌≤◌, Bool, true, false, not, ◌||◌, eqb, List, [], ◌∷◌, get_or, take, ℤ, pos, ◌+ℤ◌, Some, None, Option, sym, refl, ap, ◌∙◌, subst, ap₂, ⊎_elim, arith}
+use Rattle.std.proofs.Common.{◌≡◌, ℕ, suc, ◌+◌, ◌≤◌, Bool, true, false, not, ◌||◌, eqb, List, [], ◌∷◌, get_or, take, ℤ, pos, ◌+ℤ◌, Some, None, sym, refl, ap, ◌∙◌, ⊎_elim, arith}
 use Rattle.std.proofs.lemmas.Bool.{or_parts, both_ways, eq-eqb, ne_eqb, cond-true, cond-false, cases_Bool, not_from_false}
 use Rattle.lookup.specs.Seek.{any_of}
 use Rattle.terms.specs.Family.{Answers}
@@ -16,7 +16,7 @@ use Rattle.ledger.specs.Ledger.{Entry, Ledger, total, is_named}
 use Rattle.ledger.specs.Agreement.{Answered, NamesDiffer, NumbersDiffer, numbers, if_number, view_from, carry_worth, ledger_of, entry_named, entry_terms, entry_lots, at_found}
 use Rattle.ledger.proofs.Sums.{total_one}
 use Rattle.ledger.proofs.Found.{Open, live, open_row, nowhere}
-use Rattle.ledger.proofs.Views.{entry, not_both, other_name}
+use Rattle.ledger.proofs.Views.{entry, walk}
 use Rattle.ledger.proofs.Firsts.{Only, any_perm, any_take, any_found, any_map, only_none, only_perm, at_some, at_none}
 use Rattle.ledger.proofs.Well.{Holds, number_at}
 use Rattle.ledger.proofs.Main.{holds_after}
@@ -46,21 +46,11 @@ module _ (k : Series) where
 
   module _ (rs : List Account) (P : ℕ) (l : Line) (named : l.terms.series ≡ k) where
     view_only : (j : ℕ) (ls : List Place) (i : ℕ) → NamesDiffer ls → get_or ls i Free ≡ Taken l → j + i ≡ P → Only (is_named k) (entry rs P l) (view_from rs j ls)
-    view_only j [] i u e at = not_both l e
-    view_only j (Free ∷ ls) zero u e at = not_both l e
-    view_only j (Free ∷ ls) (suc i) u e at = view_only (suc j) ls i u e (omega arith)
-    view_only j (Taken x ∷ ls) zero u e at =
-        let x_is : x ≡ l = cc in
-        let z : j ≡ P = omega arith in
-        let n : any_of (holds (Some k)) ls ≡ false =
-        subst (λ (y : Series). any_of (holds (Some y)) ls ≡ false) (ap (λ (y : Line). y.terms.series) x_is ∙ named) u.0 in (
-          λ h. ap₂ (λ (i : ℕ) (y : Line). entry rs i y) z x_is,
-          only_none (is_named k) (entry rs P l) (view_from rs (suc j) ls) (view_any rs (suc j) ls ∙ n),
-        )
-    view_only j (Taken x ∷ ls) (suc i) u e at = (
-      λ h. absurd (both_ways (same_series x.terms.series k) (other_name k x ls i l u.0 e named) h),
-      view_only (suc j) ls i u.1 e (omega arith),
-    )
+    view_only =
+        walk k P l named (λ j ls i. Only (is_named k) (entry rs P l) (view_from rs j ls))
+        (λ ls n. (λ h. refl, only_none (is_named k) (entry rs P l) (view_from rs (suc P) ls) (view_any rs (suc P) ls ∙ n)))
+        (λ j ls i q. q)
+        (λ j x ls i n away q. (λ h. absurd (both_ways (same_series x.terms.series k) n h), q))
 
 -- a sum over the rows of a number
 module _ (t : Table) (n : ℕ) (above : 1 ≤ n) (differ : NumbersDiffer (numbers t.accounts)) (o : Open t n) where
@@ -71,9 +61,11 @@ module _ (t : Table) (n : ℕ) (above : 1 ≤ n) (differ : NumbersDiffer (number
 
   of_number : (f : Account → ℤ) → total (if_number n f) t.accounts ≡ f (account_at t (row t n))
   of_number f =
-      total_one (if_number n f) no_account t.accounts (row t n) o.within
-      (λ i l ne. cond-false (eqb (account_at t i).number n) (f (account_at t i)) (pos 0) (ne_eqb (account_at t i).number n (other_number i ne)))
-      ∙ cond-true (eqb (account_at t (row t n)).number n) (f (account_at t (row t n))) (pos 0) (eq-eqb (account_at t (row t n)).number n o.number)
+      cc (
+        total_one (if_number n f) no_account t.accounts (row t n) o.within
+            (λ i l ne. cond-false (eqb (account_at t i).number n) (f (account_at t i)) (pos 0) (ne_eqb (account_at t i).number n (other_number i ne))),
+        cond-true (eqb (account_at t (row t n)).number n) (f (account_at t (row t n))) (pos 0) (eq-eqb (account_at t (row t n)).number n o.number),
+      )
 
 module _ {a : Answers} (t : Table) (g : Ledger) (h : Holds a t g) where
   -- the ledger's entry of a name is the line's
@@ -89,20 +81,17 @@ module _ {a : Answers} (t : Table) (g : Ledger) (h : Holds a t g) where
 
   no_entry : (k : Series) → missing (found_line t k) ≡ true → entry_named k g.lines ≡ None
   no_entry k m =
-      first_none k g.lines
-      (sym (any_perm (is_named k) h.agrees.lines) ∙ (view_any k t.accounts 0 t.lines ∙ nowhere (holds (Some k)) t.lines m))
+      first_none k g.lines (cc (any_perm (is_named k) h.agrees.lines, view_any k t.accounts 0 t.lines, nowhere (holds (Some k)) t.lines m))
 
   terms_by : (k : Series) (b : Bool) → missing (found_line t k) ≡ b → at_found (λ j. (line_at t j).terms) (found_line t k) ≡ entry_terms (entry_named k g.lines)
-  terms_by k true m = at_none (λ j. (line_at t j).terms) (found_line t k) m ∙ sym (ap entry_terms (no_entry k m))
-  terms_by k false m = at_some (λ j. (line_at t j).terms) places (found_line t k) m ∙ sym (ap entry_terms (entry_is k m))
+  terms_by k true m = cc (at_none (λ j. (line_at t j).terms) (found_line t k) m, no_entry k m)
+  terms_by k false m = cc (at_some (λ j. (line_at t j).terms) places (found_line t k) m, entry_is k m)
 
   lots_by : (k : Series) (n : ℕ) → 1 ≤ n → missing (found_line t k) ≡ false → missing (found_account t n) ≡ false → lots_in (place t k) (account_at t (row t n)) ≡ entry_lots (entry_named k g.lines) n
-  lots_by k n above m o =
-      sym (of_number t n above h.well.numbers (open_row t n o) (lots_in (place t k)))
-      ∙ sym (ap (λ (e : Option Entry). entry_lots e n) (entry_is k m))
+  lots_by k n above m o = cc (of_number t n above h.well.numbers (open_row t n o) (lots_in (place t k)), entry_is k m)
 
   equity_by : (n : ℕ) → 1 ≤ n → missing (found_account t n) ≡ false → (account_at t (row t n)).equity ≡ g.sums n +ℤ total (carry_worth n) g.lines
-  equity_by n above o = sym (of_number t n above h.well.numbers (open_row t n o) (λ r. r.equity)) ∙ h.agrees.equity n
+  equity_by n above o = cc (of_number t n above h.well.numbers (open_row t n o) (λ r. r.equity), h.agrees.equity n)
 
   -- a row that is not in use has no number above 0
   accounts_by : (n : ℕ) → 1 ≤ n → not (missing (found_account t n)) ≡ any_of (λ m. eqb m n) g.accounts

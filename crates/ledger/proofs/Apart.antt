@@ -35,9 +35,7 @@ module _ (p : Line → Place → Bool) where
     module _ (l l' : Line) (same : p l' ≡ p l) where
       any_amend : (x : Line) (ls : List Place) (i : ℕ) → get_or ls i Free ≡ Taken l → any_of (p x) (set ls i (Taken l')) ≡ any_of (p x) ls
       any_amend x [] i e = refl
-      any_amend x (y ∷ ls) zero e =
-          ap (λ (b : Bool). b || any_of (p x) ls)
-          (turn x l' ∙ (ap (λ (f : Place → Bool). f (Taken x)) same ∙ (turn l x ∙ sym (ap (p x) e))))
+      any_amend x (y ∷ ls) zero e = cc (turn x l', turn l x)
       any_amend x (y ∷ ls) (suc i) e = ap (λ (b : Bool). p x y || b) (any_amend x ls i e)
 
       amend : (ls : List Place) (i : ℕ) → get_or ls i Free ≡ Taken l → Apart ls → Apart (set ls i (Taken l'))

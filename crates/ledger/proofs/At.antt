@@ -1,29 +1,22 @@
 -- What stands at an index of a list.
-use Rattle.std.proofs.Common.{◌≡◌, ℕ, zero, suc, Bool, false, List, [], ◌∷◌, map, get_or, set, replicate, sym, refl}
+use Rattle.std.proofs.Common.{◌≡◌, ℕ, zero, suc, Bool, false, List, [], ◌∷◌, map, get_or, set, replicate, arith}
 use Rattle.std.proofs.lemmas.Bool.{or_parts}
+use Rattle.std.proofs.lemmas.Grind.{common_steps}
 use Rattle.lookup.specs.Seek.{any_of}
 
 -- after every element was changed
 pub map_at : {X Y : Type 0} (f : X → Y) (d : X) (e : Y) → f d ≡ e → (xs : List X) (i : ℕ) → get_or (map f xs) i e ≡ f (get_or xs i d)
-map_at f d e h [] i = sym h
-map_at f d e h (x ∷ xs) zero = refl
-map_at f d e h (x ∷ xs) (suc i) = map_at f d e h xs i
+map_at f d e h xs i = grind (arith, common_steps)
 
 module _ {X : Type 0} (P : X → Type 0) (d : X) where
   -- after a write: what is written, or what stood there
   pub set_at : (xs : List X) (i : ℕ) (y : X) → P y → (j : ℕ) → P (get_or xs j d) → P (get_or (set xs i y) j d)
-  set_at [] i y new j old = old
-  set_at (x ∷ xs) zero y new zero old = new
-  set_at (x ∷ xs) zero y new (suc j) old = old
-  set_at (x ∷ xs) (suc i) y new zero old = old
-  set_at (x ∷ xs) (suc i) y new (suc j) old = set_at xs i y new j old
+  set_at xs i y new j old = grind (arith, common_steps)
 
   module _ (at_default : P d) where
     -- of equal elements
     pub replicate_at : (x : X) → P x → (n i : ℕ) → P (get_or (replicate n x) i d)
-    replicate_at x h zero i = at_default
-    replicate_at x h (suc n) zero = h
-    replicate_at x h (suc n) (suc i) = replicate_at x h n i
+    replicate_at x h n i = grind (arith, common_steps)
 
     -- where a test passes nowhere
     pub none_at : (p : X → Bool) → ((x : X) → p x ≡ false → P x) → (xs : List X) → any_of p xs ≡ false → (i : ℕ) → P (get_or xs i d)

@@ -1,6 +1,7 @@
 -- The credits of all rows, added up by place: rows then places, or places then rows.
-use Rattle.std.proofs.Common.{◌≡◌, ℕ, suc, ◌*◌, Bool, true, false, cond, List, [], ◌∷◌, map, get_or, ℤ, pos, ◌+ℤ◌, ◌*ℤ◌, sym, refl, ap, ◌∙◌, ap₂}
-use lib.IntN.{*ℤ-zero}
+use Rattle.std.proofs.Common.{◌≡◌, ℕ, suc, ◌*◌, Bool, cond, List, [], ◌∷◌, map, get_or, ℤ, pos, ◌+ℤ◌, ◌*ℤ◌, sym, refl, ap, ◌∙◌, ap₂, arith}
+use Rattle.std.proofs.lemmas.Int.{ints}
+use lib.IntN.{*ℤ-zero, zero-*ℤ}
 use Rattle.terms.specs.Family.{Answers}
 use Rattle.terms.specs.Adjust.{takes_in, booked_part}
 use Rattle.terms.specs.declared.event.Event.{Event}
@@ -11,7 +12,7 @@ use Rattle.rows.specs.declared.table.Place.{Place}
 use Rattle.rows.specs.declared.table.Place.TheVariants.{Free, Taken}
 use Rattle.ledger.specs.Ledger.{total, booked}
 use Rattle.ledger.specs.Agreement.{lots_of, view_from}
-use Rattle.ledger.proofs.Ring.{second_alone, zero_mulℤ, if_zero, if_plus, if_times}
+use Rattle.ledger.proofs.Ring.{second_alone, if_zero, if_plus, if_times}
 use Rattle.ledger.proofs.Sums.{total_ext, total_add, total_mul, total_none}
 
 -- lots by place, from a place on, each with the dollars of its place
@@ -28,7 +29,7 @@ pub spread_none : (f : ℕ → ℤ) → ((j : ℕ) → f j ≡ pos 0) → (j : �
 spread_none f e j [] = refl
 spread_none f e j (d ∷ ds) =
     second_alone (f j *ℤ pos (d * 1000000)) (spread f (suc j) ds) (pos 0)
-    (ap (λ (z : ℤ). z *ℤ pos (d * 1000000)) (e j) ∙ zero_mulℤ (pos (d * 1000000))) (spread_none f e (suc j) ds)
+    (ap (λ (z : ℤ). z *ℤ pos (d * 1000000)) (e j) ∙ zero-*ℤ (pos (d * 1000000))) (spread_none f e (suc j) ds)
 
 pub credit_is : (ns : List ℤ) (ds : List ℕ) → credit ns ds ≡ spread (λ j. get_or ns j (pos 0)) 0 ds
 credit_is [] ds = sym (spread_none (λ j. pos 0) (λ j. refl) 0 ds)
@@ -57,8 +58,7 @@ module _ (p : Account → Bool) (rs : List Account) where
 -- the dollars booked to a place's lots are those booked to its entry
 module _ (a : Answers) (day : ℕ) (event : Event) (rs : List Account) (n : ℕ) where
   at_place : (b : Bool) (lots : ℤ) (dollars : ℕ) → lots *ℤ pos (cond b dollars 0 * 1000000) ≡ cond b (lots *ℤ pos (dollars * 1000000)) (pos 0)
-  at_place true lots dollars = refl
-  at_place false lots dollars = *ℤ-zero lots
+  at_place b lots dollars = grind (arith, ints)
 
   pub spread_booked : (j : ℕ) (ls : List Place) → spread (λ i. lots_of rs i n) j (map (entry a day event) ls) ≡ total (booked a day event n) (view_from rs j ls)
   spread_booked j [] = refl

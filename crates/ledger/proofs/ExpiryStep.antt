@@ -1,7 +1,8 @@
 -- An accepted expiry keeps what holds.
-use Rattle.std.proofs.Common.{◌≡◌, ℕ, zero, suc, cond, eqb, ◌⊎◌, List, [], ◌∷◌, map, get_or, set, ℤ, pos, ◌-ℤ◌, ◌*ℤ◌, sym, refl, ap, ◌∙◌, subst, ap₂, inl, inr, arith}
+use Rattle.std.proofs.Common.{◌≡◌, ℕ, cond, eqb, ◌⊎◌, List, map, get_or, set, ℤ, pos, ◌-ℤ◌, ◌*ℤ◌, sym, refl, ap, ◌∙◌, subst, inl, inr, arith}
+use Rattle.std.proofs.lemmas.Grind.{common_steps}
 use mathlib.Core.Path.{fun_ext}
-use Rattle.std.proofs.lemmas.List.{length-set, get_or-set_other, set-get_or}
+use Rattle.std.proofs.lemmas.List.{length-set, get_or-set_other}
 use Rattle.std.proofs.lemmas.Bool.{cases_eq}
 use Rattle.std.proofs.lemmas.Int.{ints}
 use Rattle.terms.specs.Refusals.{first}
@@ -23,28 +24,17 @@ use Rattle.ledger.proofs.Sums.{total_ext, total_none, total_map, perm_from}
 use Rattle.ledger.proofs.Found.{Live, accepted, live}
 use Rattle.ledger.proofs.Apart.{names_remove, stocks_remove}
 use Rattle.ledger.proofs.Without.{perm_without, total_without, view_without}
-use Rattle.ledger.proofs.Gains.{Gains, no_gain, open_gained, row_gained, equity_gained, total_gained, well_gained, by_lots, none_in_all}
+use Rattle.ledger.proofs.Gains.{Gains, open_gained, row_gained, equity_gained, total_gained, well_gained, by_lots, none_in_all}
 use Rattle.ledger.proofs.Views.{not_both}
 use Rattle.ledger.proofs.Listed.{nameless_set}
 use Rattle.ledger.proofs.Well.{Well, Holds, pick}
 
 -- the default, written anywhere
 set_none : {X : Type 0} (xs : List X) (i : ℕ) (d : X) → get_or (set xs i d) i d ≡ d
-set_none [] i d = refl
-set_none (x ∷ xs) zero d = refl
-set_none (x ∷ xs) (suc i) d = set_none xs i d
+set_none xs i d = grind (arith, common_steps)
 
 expiry_gains : (j : ℕ) (gain : ℤ) → Gains (closed j gain) (λ r. lots_in j r *ℤ gain)
-expiry_gains j gain =
-    record {
-      number = λ r. refl;
-      equity = λ r. refl;
-      lots = λ r. length-set r.lots j (pos 0);
-      unheld = λ r e.
-          ap₂ (λ (z : ℤ) (ns : List ℤ). record { number = r.number; equity = z; lots = ns })
-          (no_gain r.equity (lots_in j r) gain (e j))
-          (ap (set r.lots j) (sym (e j)) ∙ set-get_or r.lots j (pos 0));
-    }
+expiry_gains j gain = grind (arith, ints, common_steps)
 
 module _ (a : Answers) (t : Table) (g : Ledger) (day : ℕ) (name : Name) (price close : ℕ) (h : Holds a t g) (ok : first (expiry_refusals a t day name price close) ≡ 0) where
   abbrev k : Series
@@ -95,9 +85,7 @@ module _ (a : Answers) (t : Table) (g : Ledger) (day : ℕ) (name : Name) (price
   final_is n = pick t g k h found (λ e. e.lots n *ℤ pos (final_worth a e.line.terms price close))
 
   gain_is : (n : ℕ) → total (if_number n (λ r. lots_in p r *ℤ d)) old ≡ total (settles a k price close n) g.lines -ℤ total (if_so (is_named k) (carry_worth n)) g.lines
-  gain_is n =
-      by_lots p d old n
-      ∙ (mul_subℤ (lots_of old p n) (pos v) (pos l.carry) ∙ sym (ap₂ (λ (x y : ℤ). x -ℤ y) (final_is n) (carry_is n)))
+  gain_is n = cc (by_lots p d old n, mul_subℤ (lots_of old p n) (pos v) (pos l.carry), final_is n, carry_is n)
 
   expiry_agrees : Agrees (expiry_table a t day name price close) (post a g (Expiry day name price close))
   expiry_agrees =
@@ -134,9 +122,7 @@ module _ (a : Answers) (t : Table) (g : Ledger) (day : ℕ) (name : Name) (price
 
   free_at : (j : ℕ) → (j ≡ p) ⊎ (j ≡ p → ⊥) → get_or (set t.lines p Free) j Free ≡ Free → (i : ℕ) → lots_in j (get_or new i no_account) ≡ pos 0
   free_at j (inl q) e i = subst (λ (m : ℕ). lots_in m (get_or new i no_account) ≡ pos 0) (sym q) (none_here i)
-  free_at j (inr ne) e i =
-      ap (lots_in j) (row_at i)
-      ∙ (lots_there j ne (account_at t i) ∙ h.well.orderly.free j (sym (get_or-set_other t.lines p j Free Free ne) ∙ e) i)
+  free_at j (inr ne) e i = cc (row_at i, lots_there j ne (account_at t i), h.well.orderly.free j (sym (get_or-set_other t.lines p j Free Free ne) ∙ e) i)
 
   expiry_well : Well a (expiry_table a t day name price close)
   expiry_well =

@@ -7,10 +7,7 @@ use Rattle.ledger.specs.Agreement.{Perm, none, keep, swap, join, at_found}
 use Rattle.ledger.proofs.Found.{found, nowhere}
 
 or_swap : (x y z : Bool) → (x || (y || z)) ≡ (y || (x || z))
-or_swap true true z = refl
-or_swap true false z = refl
-or_swap false true z = refl
-or_swap false false z = refl
+or_swap x y z = grind arith
 
 module _ {X : Type 0} (p : X → Bool) where
   -- whether the test passes anywhere does not depend on the order
@@ -66,9 +63,7 @@ any_map p f (x ∷ xs) = ap (λ (b : Bool). p (f x) || b) (any_map p f xs)
 
 -- what stands at the index that was found, and where none was
 pub at_some : {X : Type 0} (f : ℕ → X) (last : ℕ) (r : Option ℕ) → missing r ≡ false → at_found f r ≡ Some (f (index_or last r))
-at_some f last None m = absurd (both_ways true m refl)
-at_some f last (Some i) m = refl
+at_some f last r m = grind arith
 
 pub at_none : {X : Type 0} (f : ℕ → X) (r : Option ℕ) → missing r ≡ true → at_found f r ≡ None
-at_none f None m = refl
-at_none f (Some i) m = absurd (both_ways false refl m)
+at_none f r m = grind arith

@@ -1,5 +1,5 @@
 -- A fixing keeps what holds.
-use Rattle.std.proofs.Common.{◌≡◌, ℕ, Bool, ℤ, ◌+ℤ◌, sym, refl, ap, ◌∙◌}
+use Rattle.std.proofs.Common.{◌≡◌, ℕ, Bool, refl, ◌∙◌}
 use Rattle.std.proofs.lemmas.List.{length-map}
 use Rattle.terms.specs.Family.{Answers}
 use Rattle.rows.specs.Fixing.{fixes, fixed_line, place_fixed, fixing_table}
@@ -28,9 +28,7 @@ module _ (a : Answers) (t : Table) (g : Ledger) (day stock deadline close : ℕ)
       record {
         accounts = h.agrees.accounts;
         lines = perm_from view_is (perm_map _ h.agrees.lines);
-        equity = λ n.
-            h.agrees.equity n
-            ∙ ap (λ (z : ℤ). g.sums n +ℤ z) (sym (worth_where due (fixed_line close) n (λ l. refl) g.lines));
+        equity = λ n. cc (h.agrees.equity n, worth_where due (fixed_line close) n (λ l. refl) g.lines);
       }
 
   fixing_well : Well a (fixing_table t day stock deadline close)

@@ -1,5 +1,5 @@
 -- What an accepted call tells: no condition of its refusals holds, and what it asks for is found.
-use Rattle.std.proofs.Common.{◌≡◌, ℕ, zero, suc, ◌<◌, ◌≤◌, Bool, true, false, not, leb, List, [], ◌∷◌, length, get_or, Some, None, Option, sym, refl}
+use Rattle.std.proofs.Common.{◌≡◌, ℕ, zero, suc, ◌<◌, ◌≤◌, Bool, true, false, not, leb, List, [], ◌∷◌, length, get_or, Some, None, Option, sym, refl, arith}
 use Rattle.std.proofs.lemmas.Bool.{and_parts, not-false, both_ways, leb-true, eqb-true}
 use Rattle.lookup.specs.Seek.{sought, any_of, FirstAt}
 use Rattle.lookup.proofs.Seek.{sought_first, seek_out, none_sought}
@@ -41,20 +41,17 @@ module _ {X : Type 0} (p : X → Bool) (xs : List X) where
   found last m = at_index last (sought p xs) refl m
 
   none_missing : (r : Option ℕ) → missing r ≡ true → r ≡ None
-  none_missing (Some i) m = absurd (both_ways false refl m)
-  none_missing None m = refl
+  none_missing r m = grind arith
 
   pub nowhere : missing (sought p xs) ≡ true → any_of p xs ≡ false
   nowhere m = seek_out p xs (none_sought p xs (sym (none_missing (sought p xs) m)))
 
 -- the line of a name, a free place and the account of a number
 taken_by : (k : Series) (x : Place) → holds (Some k) x ≡ true → (x ≡ Taken (line_or x)) × ((line_or x).terms.series ≡ k)
-taken_by k Free h = absurd (both_ways false refl h)
-taken_by k (Taken l) h = (refl, series_is l.terms.series k h)
+taken_by k x h = grind (arith, series_is)
 
 pub free_by : (x : Place) → holds None x ≡ true → x ≡ Free
-free_by Free h = refl
-free_by (Taken l) h = absurd (both_ways false refl h)
+free_by x h = grind arith
 
 pub record Live (t : Table) (k : Series) : Type 0 where
   pub within : place t k < length t.lines

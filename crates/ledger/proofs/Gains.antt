@@ -1,5 +1,6 @@
 -- Rows after every account has gained by its lots.
-use Rattle.std.proofs.Common.{◌≡◌, ℕ, cond, eqb, List, [], ◌∷◌, map, length, get_or, take, ℤ, pos, ◌+ℤ◌, ◌*ℤ◌, sym, refl, ap, ◌∙◌, subst, ap₂}
+use Rattle.std.proofs.Common.{◌≡◌, ℕ, cond, eqb, List, [], ◌∷◌, map, length, get_or, take, ℤ, pos, ◌+ℤ◌, ◌*ℤ◌, sym, refl, ◌∙◌, subst, ap₂}
+use lib.IntN.{zero-*ℤ}
 use Rattle.std.proofs.lemmas.List.{length-map}
 use Rattle.terms.specs.Family.{Answers}
 use Rattle.rows.specs.Rows.{places, lots_in, no_account, account_at}
@@ -9,7 +10,7 @@ use Rattle.rows.specs.declared.table.Place.{Place}
 use Rattle.rows.specs.declared.table.Table.{Table}
 use Rattle.ledger.specs.Ledger.{total}
 use Rattle.ledger.specs.Agreement.{Orderly, NumbersDiffer, if_number, lots_of, equity_of, numbers}
-use Rattle.ledger.proofs.Ring.{first_alone, zero_mulℤ, if_plus, if_times}
+use Rattle.ledger.proofs.Ring.{first_alone, if_plus, if_times}
 use Rattle.ledger.proofs.Sums.{total_ext, total_add, total_mul, total_map}
 use Rattle.ledger.proofs.At.{map_at}
 use Rattle.ledger.proofs.Listed.{Nameless}
@@ -53,10 +54,8 @@ module _ {F : Account → Account} {gain : Account → ℤ} (gains : Gains F gai
       record {
         lines = lines;
         accounts = length-map t.accounts F ∙ w.accounts;
-        lots = λ i b.
-            ap (λ (r : Account). length r.lots) (row_gained t.accounts i) ∙ (gains.lots (account_at t i) ∙ w.lots i b);
-        spare = λ i c b.
-            row_gained t.accounts i ∙ (ap F (w.spare i c b) ∙ gains.unheld (new_account 0) (λ j. no_lots j 0));
+        lots = λ i b. cc (row_gained t.accounts i, gains.lots (account_at t i), w.lots i b);
+        spare = λ i c b. cc (row_gained t.accounts i, w.spare i c b, gains.unheld (new_account 0) (λ j. no_lots j 0));
         orderly = orderly;
         nameless = nameless;
         numbers = subst (λ (ns : List ℕ). NumbersDiffer ns) (sym (numbers_gained t.accounts)) w.numbers;
@@ -70,8 +69,4 @@ module _ (p : ℕ) (d : ℤ) (rs : List Account) where
       ∙ total_mul (if_number n (lots_in p)) d rs
 
   pub none_in_all : total (lots_in p) rs ≡ pos 0 → total (λ r. lots_in p r *ℤ d) rs ≡ pos 0
-  none_in_all e = total_mul (lots_in p) d rs ∙ (ap (λ (z : ℤ). z *ℤ d) e ∙ zero_mulℤ d)
-
--- an account with no lots there gains nothing
-pub no_gain : (x n d : ℤ) → n ≡ pos 0 → x +ℤ n *ℤ d ≡ x
-no_gain x n d e = first_alone x (n *ℤ d) x refl (ap (λ (m : ℤ). m *ℤ d) e ∙ zero_mulℤ d)
+  none_in_all e = cc (total_mul (lots_in p) d rs, zero-*ℤ d)

@@ -1,5 +1,6 @@
 -- An accepted listing keeps what holds.
-use Rattle.std.proofs.Common.{◌≡◌, ℕ, true, false, eqb, ◌∷◌, ℤ, pos, Some, sym, refl, ap, ◌∙◌, subst, arith}
+use Rattle.std.proofs.Common.{◌≡◌, ℕ, true, false, eqb, ◌∷◌, get_or, ℤ, pos, Some, sym, refl, ap, ◌∙◌, subst, arith}
+use lib.IntN.{zero-*ℤ}
 use mathlib.Core.Path.{fun_ext}
 use Rattle.std.proofs.lemmas.List.{length-set}
 use Rattle.std.proofs.lemmas.Bool.{not-false}
@@ -18,7 +19,7 @@ use Rattle.rows.specs.declared.table.Table.{Table}
 use Rattle.rows.specs.declared.call.Call.TheVariants.{Listing}
 use Rattle.ledger.specs.Ledger.{Ledger, post}
 use Rattle.ledger.specs.Agreement.{Perm, keep, join, Agrees, if_number, lots_of, view}
-use Rattle.ledger.proofs.Ring.{zero_mulℤ, if_zero}
+use Rattle.ledger.proofs.Ring.{if_zero}
 use Rattle.ledger.proofs.Sums.{total_none}
 use Rattle.ledger.proofs.Found.{Vacant, accepted, nowhere, vacant}
 use Rattle.ledger.proofs.Views.{view_insert, taken_is}
@@ -33,22 +34,24 @@ module _ (a : Answers) (t : Table) (g : Ledger) (day : ℕ) (name : Name) (stock
   abbrev p : ℕ
   p = free_place t
 
+  passes : (i : ℕ) → (get_or (listing_refusals a t day name stock units price) i (0, false)).1 ≡ false
+  passes i = accepted (listing_refusals a t day name stock units price) i refl ok
+
   new_name : any_of (holds (Some (series_of a name))) t.lines ≡ false
   new_name =
-      nowhere (holds (Some (series_of a name))) t.lines
-      (not-false (missing (found_line t (series_of a name))) (accepted (listing_refusals a t day name stock units price) 4 refl ok))
+      nowhere (holds (Some (series_of a name))) t.lines (not-false (missing (found_line t (series_of a name))) (passes 4))
 
   standard : is_standard a name.code ≡ true
-  standard = not-false (is_standard a name.code) (accepted (listing_refusals a t day name stock units price) 0 refl ok)
+  standard = not-false (is_standard a name.code) (passes 0)
 
   new_stock : any_of (clashes (series_of a name).prefix stock) t.lines ≡ false
   new_stock =
       no_clash a name standard stock t.lines
-      (not-false (name_fits a name) (accepted (listing_refusals a t day name stock units price) 2 refl ok))
-      new_name (accepted (listing_refusals a t day name stock units price) 5 refl ok) h.well.nameless
+      (not-false (name_fits a name) (passes 2))
+      new_name (passes 5) h.well.nameless
 
   room : Vacant t
-  room = vacant t (accepted (listing_refusals a t day name stock units price) 6 refl ok)
+  room = vacant t (passes 6)
 
   none_held : lots_of t.accounts p ≡ (λ (n : ℕ). pos 0)
   none_held =
@@ -67,7 +70,7 @@ module _ (a : Answers) (t : Table) (g : Ledger) (day : ℕ) (name : Name) (stock
             (keep h.agrees.lines);
         equity = λ n.
             let before = h.agrees.equity n in
-            let none = zero_mulℤ (pos l.carry) in
+            let none = zero-*ℤ (pos l.carry) in
             omega (arith, ints);
       }
 

@@ -1,7 +1,7 @@
 -- A listed line has the prefix of its call, unless the family cannot read its standard letter: then
 -- no line has a name, and so there is one at most.
-use Rattle.std.proofs.Common.{◌≡◌, ℕ, suc, true, false, ◌⊎◌, List, [], ◌∷◌, map, get_or, set, Some, None, Option, sym, refl, ap, ◌∙◌, subst, inl, inr, ⊎_elim}
-use Rattle.std.proofs.lemmas.Bool.{and_parts, both_ways, eqb-true, cond-true}
+use Rattle.std.proofs.Common.{◌≡◌, ℕ, suc, true, false, ◌⊎◌, List, [], ◌∷◌, map, get_or, set, Some, None, Option, sym, refl, ap, ◌∙◌, subst, ⊎_elim, arith}
+use Rattle.std.proofs.lemmas.Bool.{and_parts, cond-true}
 use Rattle.lookup.specs.Seek.{any_of}
 use Rattle.terms.specs.Names.{is_prefix, right_of}
 use Rattle.terms.specs.Family.{Answers}
@@ -16,7 +16,7 @@ use Rattle.rows.specs.declared.table.Line.{Line}
 use Rattle.rows.specs.declared.table.Place.{Place}
 use Rattle.rows.specs.declared.table.Place.TheVariants.{Free, Taken}
 use Rattle.ledger.proofs.At.{set_at}
-use Rattle.ledger.proofs.Views.{not_both, taken_is, not_held}
+use Rattle.ledger.proofs.Views.{not_both, not_held}
 use Rattle.ledger.proofs.Mapped.{Changes, place_map}
 
 -- the level of a letter, where there is one, and of the standard one
@@ -32,13 +32,10 @@ abbrev pub Nameless : Answers → List Place → Type 0
 Nameless a ls = standard_level a ≡ None → (j : ℕ) (l : Line) → get_or ls j Free ≡ Taken l → l.terms.series ≡ no_series
 
 letter_level : (a : Answers) (o : Option ℕ) (c : ℕ) → is_letter o c ≡ true → a.level c ≡ level_by a o
-letter_level a None c h = absurd (both_ways false refl h)
-letter_level a (Some s) c h = ap (λ (n : ℕ). a.level n) (sym (eqb-true s c h))
+letter_level a o c h = grind arith
 
 prefix_by : (a : Answers) (n : Name) (o : Option ℕ) (r : Option Right) → right_fits a r n.strike ≡ true → (o ≡ None) ⊎ ((series_or (series_with o r n)).prefix ≡ n.code.prefix)
-prefix_by a n None r f = inl refl
-prefix_by a n (Some v) None f = absurd (both_ways false refl f)
-prefix_by a n (Some v) (Some right) f = inr refl
+prefix_by a n o r f = grind arith
 
 -- where no place is taken, nothing clashes
 none_clashes : (prefix : Prefix) (stock : ℕ) (ls : List Place) → ((j : ℕ) (l : Line) → get_or ls j Free ≡ Taken l → ⊥) → any_of (clashes prefix stock) ls ≡ false
@@ -50,8 +47,7 @@ module _ (a : Answers) (n : Name) (standard : is_standard a n.code ≡ true) whe
   level_is : code_level a n.code ≡ standard_level a
   level_is =
       let q = and_parts (is_prefix n.code.prefix) (is_letter (a.letter 0) n.code.letter) standard in
-      cond-true (is_prefix n.code.prefix) (a.level n.code.letter) None q.0
-      ∙ letter_level a (a.letter 0) n.code.letter q.1
+      cc (cond-true (is_prefix n.code.prefix) (a.level n.code.letter) None q.0, letter_level a (a.letter 0) n.code.letter q.1)
 
   pub nameless : standard_level a ≡ None → series_of a n ≡ no_series
   nameless e = ap (λ (o : Option ℕ). series_or (series_with o (right_of n.right) n)) (level_is ∙ e)
@@ -78,9 +74,7 @@ nameless_set a ls p x new rest e j l =
 module _ {f : Place → Place} {g : Line → Line} (changes : Changes f g) (keeps : (l : Line) → l.terms.series ≡ no_series → (g l).terms.series ≡ no_series) where
   line_kept : (x : Place) (m : Line) → ((l : Line) → x ≡ Taken l → l.terms.series ≡ no_series) → f x ≡ Taken m → m.terms.series ≡ no_series
   line_kept Free m rest e = not_both m (sym changes.free ∙ e)
-  line_kept (Taken l) m rest e =
-      let q : Taken (g l) ≡ Taken m = sym (changes.taken l) ∙ e in
-      ap (λ (x : Line). x.terms.series) (sym (taken_is (g l) m q)) ∙ keeps l (rest l refl)
+  line_kept (Taken l) m rest e = cc (changes.taken l, keeps l (rest l refl))
 
   pub nameless_map : (a : Answers) (ls : List Place) → Nameless a ls → Nameless a (map f ls)
   nameless_map a ls rest e j m q = line_kept (get_or ls j Free) m (rest e j) (sym (place_map changes ls j) ∙ q)

@@ -52,8 +52,7 @@ blank_at i h = get_or-replicate rows i (new_account 0) no_account h
 
 no_number : (i : ℕ) → get_or (numbers (replicate rows (new_account 0))) i 0 ≡ 0
 no_number i =
-    number_at (replicate rows (new_account 0)) i
-    ∙ replicate_at (λ (r : Account). r.number ≡ 0) no_account refl (new_account 0) refl rows i
+    cc (number_at (replicate rows (new_account 0)) i, replicate_at (λ (r : Account). r.number ≡ 0) no_account refl (new_account 0) refl rows i)
 
 empty_holds : (a : Answers) → Holds a empty blank
 empty_holds a =
@@ -97,5 +96,4 @@ run_more a t cs i d h = ap (run a t) (take_more cs i d h) ∙ run_push a (take i
 
 -- from what a call's contract says of its answer and of the table after it
 pub step_is : (a : Answers) (t t' u : Table) (c : Call) (answer : ℕ) → answer ≡ refusal a t c → t' ≡ settled answer (after a t c) t → t ≡ u → t' ≡ step a u c
-step_is a t t' u c answer r e i =
-    e ∙ (ap (λ (n : ℕ). settled n (after a t c) t) r ∙ ap (λ (y : Table). step a y c) i)
+step_is a t t' u c answer r e i = cc

@@ -1,5 +1,5 @@
 -- The lines of a book, each changed where it stands: a free place stays free and a live line live.
-use Rattle.std.proofs.Common.{◌≡◌, ℕ, suc, Bool, true, false, cond, not, ◌&&◌, ◌||◌, eqb, List, [], ◌∷◌, map, get_or, pos, ◌*ℤ◌, sym, refl, ap, ◌∙◌, subst, ap₂}
+use Rattle.std.proofs.Common.{◌≡◌, ℕ, suc, Bool, false, cond, not, ◌&&◌, ◌||◌, eqb, List, [], ◌∷◌, map, get_or, pos, ◌*ℤ◌, sym, refl, ap, ◌∙◌, subst, ap₂, arith}
 use mathlib.Core.Path.{transport, transport⁻¹, fun_ext}
 use Rattle.std.proofs.lemmas.Bool.{or_parts, or_from}
 use Rattle.lookup.specs.Seek.{any_of}
@@ -13,7 +13,6 @@ use Rattle.ledger.specs.Ledger.{Entry, total, where_so}
 use Rattle.ledger.specs.Agreement.{view_from, carry_worth, NamesDiffer, StocksAgree}
 use Rattle.ledger.proofs.Sums.{total_ext, total_map}
 use Rattle.ledger.proofs.At.{map_at}
-use Rattle.ledger.proofs.Views.{entry, not_both}
 use Rattle.ledger.proofs.Apart.{Apart, by_name, names_are, by_stock, stocks_are}
 
 -- a line stands in one of the places
@@ -33,9 +32,7 @@ module _ {f : Place → Place} {g : Line → Line} (changes : Changes f g) where
   pub view_map : (rows : List Account) (j : ℕ) (ls : List Place) → view_from rows j (map f ls) ≡ map (with_line g) (view_from rows j ls)
   view_map rows j [] = refl
   view_map rows j (Free ∷ ls) = ap (λ (x : Place). view_from rows j (x ∷ map f ls)) changes.free ∙ view_map rows (suc j) ls
-  view_map rows j (Taken l ∷ ls) =
-      ap (λ (x : Place). view_from rows j (x ∷ map f ls)) (changes.taken l)
-      ∙ ap (λ (es : List Entry). entry rows j (g l) ∷ es) (view_map rows (suc j) ls)
+  view_map rows j (Taken l ∷ ls) = cc (changes.taken l, view_map rows (suc j) ls)
 
   -- what stands in a place afterwards, and what stood there
   pub place_map : (ls : List Place) (j : ℕ) → get_or (map f ls) j Free ≡ f (get_or ls j Free)
@@ -45,8 +42,7 @@ module _ {f : Place → Place} {g : Line → Line} (changes : Changes f g) where
   taken_map ls j l e = place_map ls j ∙ (ap f e ∙ changes.taken l)
 
   was_free : (x : Place) → f x ≡ Free → x ≡ Free
-  was_free Free e = refl
-  was_free (Taken l) e = not_both (g l) (sym e ∙ changes.taken l)
+  was_free x e = grind (arith, changes.free, changes.taken)
 
   pub free_before_map : (ls : List Place) (j : ℕ) → get_or (map f ls) j Free ≡ Free → get_or ls j Free ≡ Free
   free_before_map ls j e = was_free (get_or ls j Free) (sym (place_map ls j) ∙ e)
@@ -115,12 +111,10 @@ module _ {f : Place → Place} {g : Line → Line} (changes : Changes f g) where
 
 -- where the lines that pass a test are changed, so are their entries
 pub cond_kept : {X Y : Type 0} (f : X → Y) (b : Bool) (x y : X) → f x ≡ f y → f (cond b x y) ≡ f y
-cond_kept f true x y e = e
-cond_kept f false x y e = refl
+cond_kept f b x y e = grind arith
 
 cond_line : (b : Bool) (l : Line) (e : Entry) → record { line = cond b l e.line; lots = e.lots } ≡ cond b (record { line = l; lots = e.lots }) e
-cond_line true l e = refl
-cond_line false l e = refl
+cond_line b l e = grind arith
 
 module _ (p : Line → Bool) (g : Line → Line) where
   abbrev pub if_passes : Line → Line

@@ -24,7 +24,7 @@ use Rattle.ledger.proofs.Sums.{total_map, total_where, perm_map, perm_from}
 use Rattle.ledger.proofs.Found.{Live, accepted, live}
 use Rattle.ledger.proofs.Views.{view_amend, taken_is}
 use Rattle.ledger.proofs.Apart.{names_amend, stocks_amend, free_before}
-use Rattle.ledger.proofs.Gains.{Gains, no_gain, open_gained, row_gained, equity_gained, total_gained, well_gained, by_lots, none_in_all}
+use Rattle.ledger.proofs.Gains.{Gains, open_gained, row_gained, equity_gained, total_gained, well_gained, by_lots, none_in_all}
 use Rattle.ledger.proofs.Listed.{nameless_set}
 use Rattle.ledger.proofs.Well.{Well, Holds, pick}
 
@@ -33,14 +33,7 @@ recarried : (n : ℤ) (c v : ℕ) → n *ℤ pos v ≡ n *ℤ pos c +ℤ n *ℤ 
 recarried n c v = let e = mul_subℤ n (pos v) (pos c) in omega (arith, ints)
 
 mark_gains : (j : ℕ) (gain : ℤ) → Gains (gained j gain) (λ r. lots_in j r *ℤ gain)
-mark_gains j gain =
-    record {
-      number = λ r. refl;
-      equity = λ r. refl;
-      lots = λ r. refl;
-      unheld = λ r e.
-          ap (λ (z : ℤ). record { number = r.number; equity = z; lots = r.lots }) (no_gain r.equity (lots_in j r) gain (e j));
-    }
+mark_gains j gain = grind (arith, ints)
 
 module _ (a : Answers) (t : Table) (g : Ledger) (day : ℕ) (name : Name) (price : ℕ) (h : Holds a t g) (ok : first (mark_refusals a t day name price) ≡ 0) where
   abbrev k : Series
@@ -108,8 +101,7 @@ module _ (a : Answers) (t : Table) (g : Ledger) (day : ℕ) (name : Name) (price
       (record {
         names = names_amend l l' refl t.lines p found.taken h.well.orderly.names;
         stocks = stocks_amend l l' refl t.lines p found.taken h.well.orderly.stocks;
-        free = λ j e i.
-            ap (lots_in j) (row_gained (mark_gains p d) old i) ∙ h.well.orderly.free j (free_before l' t.lines p j e) i;
+        free = λ j e i. cc (row_gained (mark_gains p d) old i, h.well.orderly.free j (free_before l' t.lines p j e) i);
       })
 
   pub mark_holds : Holds a (mark_table a t day name price) (post a g (Mark day name price))

@@ -1,5 +1,6 @@
 -- An accepted opening keeps what holds.
-use Rattle.std.proofs.Common.{◌≡◌, ℕ, suc, ◌<◌, ◌≤◌, Bool, true, false, cond, not, ◌||◌, eqb, List, [], ◌∷◌, ◌++◌, length, get_or, take, set, ℤ, pos, ◌+ℤ◌, ◌*ℤ◌, sym, refl, ap, ◌∙◌, subst, ap₂, arith}
+use Rattle.std.proofs.Common.{◌≡◌, ℕ, suc, ◌<◌, ◌≤◌, Bool, true, false, cond, not, eqb, List, [], ◌∷◌, length, get_or, take, set, ℤ, pos, ◌+ℤ◌, sym, refl, ap, ◌∙◌, subst, ap₂, arith}
+use lib.IntN.{zero-*ℤ}
 use mathlib.Core.Path.{fun_ext}
 use Rattle.std.proofs.lemmas.List.{length-set, length-map, get_or-set_other, map-set, map_push, take_more_set}
 use Rattle.std.proofs.lemmas.Bool.{or_parts, not-false, leb-false, eqb-true, eqb-false, cond-false}
@@ -17,7 +18,7 @@ use Rattle.rows.specs.declared.table.Table.{Table}
 use Rattle.rows.specs.declared.call.Call.TheVariants.{Opening}
 use Rattle.ledger.specs.Ledger.{Ledger, total, post}
 use Rattle.ledger.specs.Agreement.{Agrees, Balanced, if_number, lots_of, equity_of, view_from, carry_worth, numbers, NumbersDiffer}
-use Rattle.ledger.proofs.Ring.{zero_mulℤ, if_zero}
+use Rattle.ledger.proofs.Ring.{if_zero}
 use Rattle.ledger.proofs.Sums.{total_set, total_perm, perm_from}
 use Rattle.ledger.proofs.At.{set_at, none_at}
 use Rattle.ledger.proofs.Found.{accepted, at_least_one, nowhere}
@@ -34,8 +35,7 @@ none_numbered n f (r ∷ rs) e =
 no_worth : (rs : List Account) (n : ℕ) → ((j : ℕ) → lots_of rs j n ≡ pos 0) → (j : ℕ) (ls : List Place) → total (carry_worth n) (view_from rs j ls) ≡ pos 0
 no_worth rs n h j [] = refl
 no_worth rs n h j (Free ∷ ls) = no_worth rs n h (suc j) ls
-no_worth rs n h j (Taken l ∷ ls) =
-    ap₂ (λ (x y : ℤ). x +ℤ y) (ap (λ (z : ℤ). z *ℤ pos l.carry) (h j) ∙ zero_mulℤ (pos l.carry)) (no_worth rs n h (suc j) ls)
+no_worth rs n h j (Taken l ∷ ls) = cc (h j, zero-*ℤ (pos l.carry), no_worth rs n h (suc j) ls)
 
 module _ (a : Answers) (t : Table) (g : Ledger) (day n : ℕ) (h : Holds a t g) (ok : first (opening_refusals t day n) ≡ 0) where
   abbrev old : List Account
@@ -44,16 +44,17 @@ module _ (a : Answers) (t : Table) (g : Ledger) (day n : ℕ) (h : Holds a t g) 
   abbrev new : List Account
   new = set old t.count (new_account n)
 
+  passes : (i : ℕ) → (get_or (opening_refusals t day n) i (0, false)).1 ≡ false
+  passes i = accepted (opening_refusals t day n) i refl ok
+
   above : 1 ≤ n
-  above =
-      let q : (not (is_day day) || not (is_number n)) ≡ false = accepted (opening_refusals t day n) 0 refl ok in
-      at_least_one n (or_parts (not (is_day day)) (not (is_number n)) q).1
+  above = at_least_one n (or_parts (not (is_day day)) (not (is_number n)) (passes 0)).1
 
   absent : any_of (numbered n) old ≡ false
-  absent = nowhere (numbered n) old (not-false (missing (found_account t n)) (accepted (opening_refusals t day n) 2 refl ok))
+  absent = nowhere (numbered n) old (not-false (missing (found_account t n)) (passes 2))
 
   room : t.count < rows
-  room = leb-false rows t.count (accepted (opening_refusals t day n) 3 refl ok)
+  room = leb-false rows t.count (passes 3)
 
   within : t.count < length old
   within = let r = room in omega (arith, h.well.accounts)
@@ -88,10 +89,7 @@ module _ (a : Answers) (t : Table) (g : Ledger) (day n : ℕ) (h : Holds a t g) 
   opening_agrees : Agrees (opening_table t day n) (post a g (Opening day n))
   opening_agrees =
       record {
-        accounts =
-            ap numbers (take_more_set old t.count (new_account n) within)
-            ∙ (map_push (λ (r : Account). r.number) (take t.count old) (new_account n)
-            ∙ ap (λ (ns : List ℕ). ns ++ (n ∷ [])) h.agrees.accounts);
+        accounts = cc (take_more_set old t.count (new_account n) within, map_push (λ (r : Account). r.number) (take t.count old) (new_account n), h.agrees.accounts);
         lines = perm_from (view_ext old new lots_same 0 t.lines) h.agrees.lines;
         equity = λ m. equity_at m (eqb m n) refl;
       }

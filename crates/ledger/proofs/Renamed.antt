@@ -1,7 +1,7 @@
 -- The names, prefixes and stocks of the lines after an event: they stay apart where the event was not
 -- refused.
-use Rattle.std.proofs.Common.{◌≡◌, ℕ, zero, suc, ◌+◌, Bool, true, false, cond, not, ◌&&◌, ◌||◌, eqb, ltb, List, [], ◌∷◌, map, sym, refl, ap, ◌∙◌, ap₂, arith}
-use Rattle.std.proofs.lemmas.Bool.{and_parts, or_parts, not-false, not_from_false, eqb-true, eq-eqb, cond-true, cond-false, le-ltb}
+use Rattle.std.proofs.Common.{◌≡◌, ℕ, zero, suc, ◌+◌, Bool, true, false, cond, not, ◌&&◌, List, [], ◌∷◌, map, sym, refl, ap, ◌∙◌, ap₂, arith}
+use Rattle.std.proofs.lemmas.Bool.{not_from_false, cond-false}
 use Rattle.lookup.specs.Seek.{any_of}
 use Rattle.terms.specs.Events.{no_successor}
 use Rattle.terms.specs.Family.{Answers}
@@ -9,7 +9,7 @@ use Rattle.terms.specs.Adjust.{takes_in, next_series}
 use Rattle.terms.specs.declared.code.Prefix.{Prefix}
 use Rattle.terms.specs.declared.code.Series.{Series}
 use Rattle.terms.specs.declared.event.Event.{Event}
-use Rattle.rows.specs.Rows.{same_prefix, same_series, no_series}
+use Rattle.rows.specs.Rows.{same_series, no_series}
 use Rattle.rows.specs.Listing.{clashes}
 use Rattle.rows.specs.Adjustment.{contradicts, bears, meets, adjusted_line, place_adjusted}
 use Rattle.rows.specs.declared.table.Line.{Line}
@@ -19,7 +19,7 @@ use Rattle.ledger.specs.Agreement.{NamesDiffer, StocksAgree}
 use Rattle.ledger.proofs.SameSeries.{prefix_is, prefix_self, series_from, series_turn, other_series, not_series}
 use Rattle.ledger.proofs.Views.{not_both, none_taken}
 use Rattle.ledger.proofs.Apart.{by_name, by_stock, stock_turn}
-use Rattle.ledger.proofs.Mapped.{Among, Changes, cond_kept, if_passes, names_map, stocks_map}
+use Rattle.ledger.proofs.Mapped.{Among, Changes, if_passes, names_map, stocks_map}
 
 -- what becomes of a line
 abbrev pub line_after : Answers → ℕ → Event → Line → Line
@@ -29,27 +29,16 @@ pub adjusts_places : (a : Answers) (day : ℕ) (event : Event) → Changes (plac
 adjusts_places a day event = record { free = refl; taken = λ l. refl }
 
 -- a line that has no name expires on day 0, and so an event leaves it as it is
-not_after : (day : ℕ) (b : Bool) → (b && ltb day 0) ≡ false
-not_after day true = le-ltb day 0 (omega arith)
-not_after day false = refl
-
 pub unnamed_stays : (a : Answers) (day : ℕ) (event : Event) (l : Line) → l.terms.series ≡ no_series → (line_after a day event l).terms.series ≡ no_series
-unnamed_stays a day event l e =
-    let out : takes_in day event l.terms ≡ false =
-    ap (λ (s : Series). eqb l.terms.stock event.stock && ltb day s.expiry) e ∙ not_after day (eqb l.terms.stock event.stock) in
-    ap (λ (x : Line). x.terms.series) (cond-false (takes_in day event l.terms) (adjusted_line a day event l) l out) ∙ e
+unnamed_stays a day event l e = grind arith
 
 -- of two tests that do not both pass, the second fails where the first passes
 then_not : (x y : Bool) → (x && y) ≡ false → x ≡ true → y ≡ false
-then_not x y e h = sym (ap (λ (b : Bool). b && y) h) ∙ e
+then_not x y e h = grind arith
 
--- a line clashes by its prefix and stock alone, and not with itself
-same_clash : (x x' z : Line) → x'.terms.series.prefix ≡ x.terms.series.prefix → x'.terms.stock ≡ x.terms.stock → by_stock x' (Taken z) ≡ by_stock x (Taken z)
-same_clash x x' z p s = ap₂ (λ (p : Prefix) (s : ℕ). clashes p s (Taken z)) p s
-
+-- a line does not clash with itself
 self_clash : (l : Line) → by_stock l (Taken l) ≡ false
-self_clash l =
-    ap₂ (λ (a b : Bool). (a && not b) || (b && not a)) (prefix_self l.terms.series.prefix) (eq-eqb l.terms.stock l.terms.stock refl)
+self_clash l = grind (arith, prefix_self)
 
 -- no two lines of a book clash, in whatever order they stand
 stocks_among : (ls : List Place) → StocksAgree ls → (x y : Line) → Among x ls → Among y ls → by_stock x (Taken y) ≡ false
@@ -57,30 +46,18 @@ stocks_among [] u x y m n = not_both x m.1
 stocks_among (Free ∷ ls) u x y (zero, e) n = not_both x e
 stocks_among (Free ∷ ls) u x y (suc i, e) (zero, q) = not_both y q
 stocks_among (Free ∷ ls) u x y (suc i, e) (suc j, q) = stocks_among ls u x y (i, e) (j, q)
-stocks_among (Taken z ∷ ls) u x y (zero, e) (zero, q) =
-    let x_is : z ≡ x = cc in
-    let y_is : z ≡ y = cc in
-    ap₂ (λ (k l : Line). by_stock k (Taken l)) (sym x_is) (sym y_is) ∙ self_clash z
-stocks_among (Taken z ∷ ls) u x y (zero, e) (suc j, q) =
-    let x_is : x ≡ z = cc in
-    ap (λ (l : Line). by_stock l (Taken y)) x_is ∙ none_taken (by_stock z) ls j y u.0 q
-stocks_among (Taken z ∷ ls) u x y (suc i, e) (zero, q) =
-    let y_is : y ≡ z = cc in
-    stock_turn x y ∙ (ap (λ (l : Line). by_stock l (Taken x)) y_is ∙ none_taken (by_stock z) ls i x u.0 e)
+stocks_among (Taken z ∷ ls) u x y (zero, e) (zero, q) = cc (self_clash z)
+stocks_among (Taken z ∷ ls) u x y (zero, e) (suc j, q) = cc (none_taken (by_stock z) ls j y u.0 q)
+stocks_among (Taken z ∷ ls) u x y (suc i, e) (zero, q) = cc (none_taken (by_stock z) ls i x u.0 e, stock_turn x y)
 stocks_among (Taken z ∷ ls) u x y (suc i, e) (suc j, q) = stocks_among ls u.1 x y (i, e) (j, q)
 
 -- lines of one stock that do not clash have one prefix
 one_prefix : (x y : Line) → by_stock x (Taken y) ≡ false → y.terms.stock ≡ x.terms.stock → y.terms.series.prefix ≡ x.terms.series.prefix
-one_prefix x y n e =
-    let prefixes = same_prefix y.terms.series.prefix x.terms.series.prefix in
-    let stocks = eqb y.terms.stock x.terms.stock in
-    prefix_is y.terms.series.prefix x.terms.series.prefix
-    (not-false prefixes (then_not stocks (not prefixes) (or_parts (prefixes && not stocks) (stocks && not prefixes) n).1 (eq-eqb y.terms.stock x.terms.stock e)))
+one_prefix x y n e = grind (arith, prefix_is)
 
 -- the level moves for all lines or for none
 level_back : (b : Bool) (m n : ℕ) → cond b (m + 1) m ≡ cond b (n + 1) n → m ≡ n
-level_back true m n e = omega arith
-level_back false m n e = e
+level_back b m n e = grind arith
 
 module _ (a : Answers) (day : ℕ) (event : Event) (ls : List Place) (stocks : StocksAgree ls) where
   abbrev taken : Line → Bool
@@ -91,9 +68,7 @@ module _ (a : Answers) (day : ℕ) (event : Event) (ls : List Place) (stocks : S
   made b l = cond b (adjusted_line a day event l) l
 
   stock_is : (l : Line) → taken l ≡ true → l.terms.stock ≡ event.stock
-  stock_is l h =
-      eqb-true l.terms.stock event.stock
-      (and_parts (eqb l.terms.stock event.stock) (ltb day l.terms.series.expiry) h).0
+  stock_is l h = grind arith
 
   -- lines taken in keep different names
   both_in : (x y : Line) → Among x ls → Among y ls → taken x ≡ true → taken y ≡ true → by_name x (Taken y) ≡ false → by_name (made true x) (Taken (made true y)) ≡ false
@@ -130,21 +105,13 @@ module _ (a : Answers) (day : ℕ) (event : Event) (ls : List Place) (stocks : S
   -- without a new stock, each line keeps its prefix and its stock
   module _ (none : no_successor event.successor ≡ true) where
     same_prefix_by : (b : Bool) (l : Line) → (made b l).terms.series.prefix ≡ l.terms.series.prefix
-    same_prefix_by b l =
-        cond_kept (λ (x : Line). x.terms.series.prefix) b (adjusted_line a day event l) l
-        (cond-true (no_successor event.successor) l.terms.series.prefix event.successor.prefix none)
+    same_prefix_by b l = grind arith
 
     same_stock_by : (b : Bool) (l : Line) → (made b l).terms.stock ≡ l.terms.stock
-    same_stock_by b l =
-        cond_kept (λ (x : Line). x.terms.stock) b (adjusted_line a day event l) l
-        (cond-true (no_successor event.successor) l.terms.stock event.successor.stock none)
+    same_stock_by b l = grind arith
 
     clash_kept : (b c : Bool) (x y : Line) → by_stock (made b x) (Taken (made c y)) ≡ by_stock x (Taken y)
-    clash_kept b c x y =
-        same_clash x (made b x) (made c y) (same_prefix_by b x) (same_stock_by b x)
-        ∙ (stock_turn x (made c y)
-        ∙ (same_clash y (made c y) x (same_prefix_by c y) (same_stock_by c y)
-        ∙ stock_turn y x))
+    clash_kept b c x y = grind (arith, same_prefix_by, same_stock_by)
 
   -- with one, the lines taken in have it and its prefix, and it contradicts no line left out
   module _ (none_contradicts : (not (no_successor event.successor) && any_of (contradicts day event) ls) ≡ false) where
@@ -156,9 +123,7 @@ module _ (a : Answers) (day : ℕ) (event : Event) (ls : List Place) (stocks : S
       new_stock l = cond-false (no_successor event.successor) l.terms.stock event.successor.stock some
 
       both_new : (x y : Line) → by_stock (made true x) (Taken (made true y)) ≡ false
-      both_new x y =
-          same_clash (made true y) (made true x) (made true y) (new_prefix x ∙ sym (new_prefix y)) (new_stock x ∙ sym (new_stock y))
-          ∙ self_clash (made true y)
+      both_new x y = grind (arith, new_prefix, new_stock, self_clash)
 
       one_new : (x y : Line) → Among y ls → taken y ≡ false → by_stock (made true x) (Taken y) ≡ false
       one_new x y n q =

@@ -1,9 +1,10 @@
 -- Sums over lists.
-use Rattle.std.proofs.Common.{◌≡◌, ℕ, zero, suc, ◌<◌, Bool, true, false, cond, List, [], ◌∷◌, map, length, get_or, set, replicate, ℤ, pos, ◌+ℤ◌, ◌*ℤ◌, sym, refl, ap, ◌∙◌, subst, ap₂, arith}
+use Rattle.std.proofs.Common.{◌≡◌, ℕ, zero, suc, ◌<◌, Bool, cond, List, [], ◌∷◌, map, length, get_or, set, replicate, ℤ, pos, ◌+ℤ◌, ◌*ℤ◌, sym, refl, ap, ◌∙◌, subst, ap₂, arith}
+use lib.IntN.{zero-*ℤ}
 use Rattle.std.proofs.lemmas.Int.{ints}
 use Rattle.ledger.specs.Ledger.{total}
 use Rattle.ledger.specs.Agreement.{Perm, none, keep, swap, join}
-use Rattle.ledger.proofs.Ring.{plus_zero, first_alone, second_alone, zero_mulℤ, add_mulℤ}
+use Rattle.ledger.proofs.Ring.{first_alone, second_alone, add_mulℤ}
 
 module _ {X : Type 0} where
   -- of functions with equal values, of a sum and of a multiple
@@ -16,7 +17,7 @@ module _ {X : Type 0} where
   total_add f h (x ∷ xs) = let i = total_add f h xs in omega (arith, ints)
 
   pub total_mul : (f : X → ℤ) (d : ℤ) (xs : List X) → total (λ x. f x *ℤ d) xs ≡ total f xs *ℤ d
-  total_mul f d [] = sym (zero_mulℤ d)
+  total_mul f d [] = sym (zero-*ℤ d)
   total_mul f d (x ∷ xs) = ap (λ (z : ℤ). f x *ℤ d +ℤ z) (total_mul f d xs) ∙ sym (add_mulℤ (f x) (total f xs) d)
 
   -- after a write, and of equal elements that count nothing
@@ -56,14 +57,10 @@ total_map f h (x ∷ xs) = ap (λ (z : ℤ). f (h x) +ℤ z) (total_map f h xs)
 
 -- where the elements that pass a test are changed
 pub total_where : {X : Type 0} (f : X → ℤ) (p : X → Bool) (h : X → X) (gain : X → ℤ) → ((x : X) → f (h x) ≡ f x +ℤ gain x) → (xs : List X) → total f (map (λ x. cond (p x) (h x) x) xs) ≡ total f xs +ℤ total (λ x. cond (p x) (gain x) (pos 0)) xs
-total_where f p h gain e xs =
-    total_map f (λ x. cond (p x) (h x) x) xs
-    ∙ (total_ext (λ x. f (cond (p x) (h x) x)) (λ x. f x +ℤ cond (p x) (gain x) (pos 0)) (λ x. by x (p x)) xs
-    ∙ total_add f (λ x. cond (p x) (gain x) (pos 0)) xs)
-  where
-    by : (x : _) (b : Bool) → f (cond b (h x) x) ≡ f x +ℤ cond b (gain x) (pos 0)
-    by x true = e x
-    by x false = plus_zero (f x)
+total_where f p h gain e [] = refl
+total_where f p h gain e (x ∷ xs) =
+    let here : f (cond (p x) (h x) x) ≡ f x +ℤ cond (p x) (gain x) (pos 0) = grind (arith, ints, e x) in
+    omega (arith, ints, total_where f p h gain e xs)
 
 -- lists in another order
 pub perm_map : {X Y : Type 0} (f : X → Y) {xs ys : List X} → Perm xs ys → Perm (map f xs) (map f ys)

@@ -1,10 +1,11 @@
 -- An accepted trade keeps what holds.
-use Rattle.std.proofs.Common.{◌≡◌, ℕ, ◌<◌, ◌≤◌, Bool, true, false, cond, not, ◌||◌, eqb, List, length, get_or, set, ℤ, pos, ◌+ℤ◌, ◌-ℤ◌, ◌*ℤ◌, neg_ℤ, sym, refl, ap, ◌∙◌, subst, ap₂, arith}
+use Rattle.std.proofs.Common.{◌≡◌, ℕ, ◌<◌, ◌≤◌, Bool, true, false, cond, eqb, List, length, get_or, set, ℤ, pos, ◌+ℤ◌, ◌-ℤ◌, ◌*ℤ◌, neg_ℤ, sym, refl, ap, ◌∙◌, subst, ap₂, arith}
+use Rattle.std.proofs.lemmas.Grind.{common_steps}
+use lib.IntN.{+ℤ_invr}
 use mathlib.Core.Path.{fun_ext}
-use Rattle.std.proofs.lemmas.List.{length-set, get_or-set_same, get_or-set_other, set-get_or, map-set}
-use Rattle.std.proofs.lemmas.Bool.{or_parts, eqb-true, eqb-false, eq-eqb, ne_eqb}
+use Rattle.std.proofs.lemmas.List.{length-set, get_or-set_other, set-get_or, map-set}
+use Rattle.std.proofs.lemmas.Bool.{or_parts, eqb-false, eq-eqb, ne_eqb}
 use Rattle.std.proofs.lemmas.Int.{ints}
-use Rattle.terms.specs.Units.{is_day, is_number, is_price, is_lots}
 use Rattle.terms.specs.Terms.{lot_of}
 use Rattle.terms.specs.Refusals.{first}
 use Rattle.terms.specs.Family.{Answers}
@@ -20,7 +21,7 @@ use Rattle.rows.specs.declared.table.Table.{Table}
 use Rattle.rows.specs.declared.call.Call.TheVariants.{Trade}
 use Rattle.ledger.specs.Ledger.{Entry, Ledger, total, is_named, at_name, between, dealt, paid, post}
 use Rattle.ledger.specs.Agreement.{Agrees, Balanced, if_number, lots_of, equity_of, view_from, view, carry_worth, numbers, NumbersDiffer}
-use Rattle.ledger.proofs.Ring.{plus_zero, cancel, zero_mulℤ, add_mulℤ, neg_mulℤ, mul_negℤ, mul_subℤ, if_plus}
+use Rattle.ledger.proofs.Ring.{plus_zero, add_mulℤ, neg_mulℤ, mul_negℤ, mul_subℤ, if_plus}
 use Rattle.ledger.proofs.Sums.{total_set, total_where, perm_map, perm_from}
 use Rattle.ledger.proofs.At.{set_at}
 use Rattle.ledger.proofs.Found.{Live, Open, accepted, at_least_one, live, open_row}
@@ -32,38 +33,22 @@ turned from to = omega (arith, ints)
 
 -- what the buyer and the seller get, of nothing, by two tests, and of a price in two parts
 of_nothing : (x y : Bool) → cond x (pos 0) (cond y (neg_ℤ (pos 0)) (pos 0)) ≡ pos 0
-of_nothing true y = refl
-of_nothing false true = refl
-of_nothing false false = refl
+of_nothing x y = grind (arith, ints)
 
-both : (b s m : ℕ) (x y : Bool) (d : ℤ) → (b ≡ s → ⊥) → eqb b m ≡ x → eqb s m ≡ y → cond x d (pos 0) +ℤ cond y (neg_ℤ d) (pos 0) ≡ cond x d (cond y (neg_ℤ d) (pos 0))
-both b s m true true d n e f = absurd (n (eqb-true b m e ∙ sym (eqb-true s m f)))
-both b s m true false d n e f = sym (plus_zero d)
-both b s m false true d n e f = omega (arith, ints)
-both b s m false false d n e f = refl
+both : (b s m : ℕ) (d : ℤ) → (b ≡ s → ⊥) → cond (eqb b m) d (pos 0) +ℤ cond (eqb s m) (neg_ℤ d) (pos 0) ≡ between b s d m
+both b s m d n = grind (arith, ints)
 
 deal_split : (x y : Bool) (n c v : ℤ) → cond x (n *ℤ (c -ℤ v)) (cond y (neg_ℤ (n *ℤ (c -ℤ v))) (pos 0)) ≡ cond x n (cond y (neg_ℤ n) (pos 0)) *ℤ c -ℤ cond x (n *ℤ v) (cond y (neg_ℤ (n *ℤ v)) (pos 0))
 deal_split true y n c v = mul_subℤ n c v
-deal_split false true n c v =
-    ap neg_ℤ (mul_subℤ n c v) ∙ (spread (n *ℤ c) (n *ℤ v) ∙ ap (λ (z : ℤ). z -ℤ neg_ℤ (n *ℤ v)) (sym (neg_mulℤ n c)))
-  where
-    spread : (x y : ℤ) → neg_ℤ (x -ℤ y) ≡ neg_ℤ x -ℤ neg_ℤ y
-    spread x y = omega (arith, ints)
-deal_split false false n c v = sym (ap (λ (z : ℤ). z -ℤ pos 0) (zero_mulℤ c))
+deal_split false true n c v = omega (arith, ints, mul_subℤ n c v, neg_mulℤ n c)
+deal_split false false n c v = omega (arith, ints)
 
 -- a row after a trade
 traded_lots : (j p : ℕ) (z gain : ℤ) (r : Account) → p < length r.lots → (b : Bool) → eqb j p ≡ b → lots_in j (traded p z gain r) ≡ lots_in j r +ℤ cond b z (pos 0)
-traded_lots j p z gain r h true e =
-    let q : p ≡ j = sym (eqb-true j p e) in
-    subst (λ (i : ℕ). get_or (set r.lots p (lots_in p r +ℤ z)) i (pos 0) ≡ lots_in i r +ℤ z) q
-    (get_or-set_same r.lots p (lots_in p r +ℤ z) (pos 0) h)
-traded_lots j p z gain r h false e =
-    get_or-set_other r.lots p j (lots_in p r +ℤ z) (pos 0) (eqb-false j p e) ∙ plus_zero (lots_in j r)
+traded_lots j p z gain r h b e = grind (arith, ints, common_steps)
 
 same_numbers : (rs : List Account) (i : ℕ) (r : Account) → r.number ≡ (get_or rs i no_account).number → numbers (set rs i r) ≡ numbers rs
-same_numbers rs i r e =
-    map-set (λ (r : Account). r.number) rs i r
-    ∙ (ap (set (numbers rs) i) (e ∙ sym (number_at rs i)) ∙ set-get_or (numbers rs) i 0)
+same_numbers rs i r e = cc (map-set (λ (r : Account). r.number) rs i r, number_at rs i, set-get_or (numbers rs) i 0)
 
 module _ (a : Answers) (t : Table) (g : Ledger) (day : ℕ) (name : Name) (b s price n : ℕ) (h : Holds a t g) (ok : first (trade_refusals a t day name b s price n) ≡ 0) where
   abbrev k : Series
@@ -108,27 +93,24 @@ module _ (a : Answers) (t : Table) (g : Ledger) (day : ℕ) (name : Name) (b s p
   abbrev new : List Account
   new = set mid is S
 
-  -- what was asked for is there
+  -- no condition of a refusal holds, and what was asked for is there
+  passes : (i : ℕ) → (get_or (trade_refusals a t day name b s price n) i (0, false)).1 ≡ false
+  passes i = accepted (trade_refusals a t day name b s price n) i refl ok
+
   parties : (1 ≤ b) × (1 ≤ s)
   parties =
-      let sizes = not (is_price price) || not (is_lots n) in
-      let sellers = not (is_number s) || sizes in
-      let buyers = not (is_number b) || sellers in
-      let q : trade_outside day name b s price n ≡ false = accepted (trade_refusals a t day name b s price n) 1 refl ok in
-      let days = (or_parts (not (is_day day)) (not (is_day name.expiry) || buyers) q).1 in
-      let ends = (or_parts (not (is_day name.expiry)) buyers days).1 in
-      let buyer = or_parts (not (is_number b)) sellers ends in
-      (at_least_one b buyer.0, at_least_one s (or_parts (not (is_number s)) sizes buyer.1).0)
+      let q : trade_outside day name b s price n ≡ false = passes 1 in
+      (at_least_one b (grind arith), at_least_one s (grind arith))
 
   apart : b ≡ s → ⊥
-  apart = eqb-false b s (accepted (trade_refusals a t day name b s price n) 3 refl ok)
+  apart = eqb-false b s (passes 3)
 
   found : Live t k
-  found = live t k (accepted (trade_refusals a t day name b s price n) 5 refl ok)
+  found = live t k (passes 5)
 
   both_open : (missing (found_account t b) ≡ false) × (missing (found_account t s) ≡ false)
   both_open =
-      or_parts (missing (found_account t b)) (missing (found_account t s)) (accepted (trade_refusals a t day name b s price n) 6 refl ok)
+      or_parts (missing (found_account t b)) (missing (found_account t s)) (passes 6)
 
   buyer : Open t b
   buyer = open_row t b both_open.0
@@ -146,7 +128,7 @@ module _ (a : Answers) (t : Table) (g : Ledger) (day : ℕ) (name : Name) (b s p
   s_mid = let i = seller.within in omega (arith, length-set old ib B)
 
   rows_apart : is ≡ ib → ⊥
-  rows_apart e = apart (sym buyer.number ∙ (ap (λ (i : ℕ). (account_at t i).number) (sym e) ∙ seller.number))
+  rows_apart e = apart (cc (buyer.number, seller.number))
 
   other_row : get_or mid is no_account ≡ rs
   other_row = get_or-set_other old ib is B no_account rows_apart
@@ -166,7 +148,7 @@ module _ (a : Answers) (t : Table) (g : Ledger) (day : ℕ) (name : Name) (b s p
       ∙ (if_plus (eqb rb.number m) (f rb) d ∙ ap (λ (i : ℕ). if_number m f rb +ℤ cond (eqb i m) d (pos 0)) buyer.number))
       (ap (λ (z : ℤ). cond (eqb rs.number m) z (pos 0)) hS
       ∙ (if_plus (eqb rs.number m) (f rs) (neg_ℤ d) ∙ ap (λ (i : ℕ). if_number m f rs +ℤ cond (eqb i m) (neg_ℤ d) (pos 0)) seller.number))
-      ∙ ap (λ (z : ℤ). total (if_number m f) old +ℤ z) (both b s m (eqb b m) (eqb s m) d apart refl refl)
+      ∙ ap (λ (z : ℤ). total (if_number m f) old +ℤ z) (both b s m d apart)
 
   p_in : (i : ℕ) → i < rows → p < length (account_at t i).lots
   p_in i c = omega (arith, found.within, h.well.lines, h.well.lots i c)
@@ -186,7 +168,7 @@ module _ (a : Answers) (t : Table) (g : Ledger) (day : ℕ) (name : Name) (b s p
   here = fun_ext (λ m. deal_by m (lots_in p) (pos n) (b_lots p true (eq-eqb p p refl)) (s_lots p true (eq-eqb p p refl)))
 
   lost : S.equity ≡ rs.equity +ℤ neg_ℤ gain
-  lost = ap (λ (z : ℤ). rs.equity +ℤ z) (ap (λ (z : ℤ). pos n *ℤ z) (turned v l.carry) ∙ mul_negℤ (pos n) (change v l.carry))
+  lost = cc (turned v l.carry, mul_negℤ (pos n) (change v l.carry))
 
   equity_is : (m : ℕ) → equity_of new m ≡ equity_of old m +ℤ between b s gain m
   equity_is m = deal_by m (λ r. r.equity) gain refl lost
@@ -212,9 +194,7 @@ module _ (a : Answers) (t : Table) (g : Ledger) (day : ℕ) (name : Name) (b s p
   paid_is = pick t g k h found (λ e. pos n *ℤ pos (a.trade (lot_of e.line.terms) price))
 
   gain_is : (m : ℕ) → between b s gain m ≡ between b s (pos n) m *ℤ pos l.carry -ℤ between b s price_of m
-  gain_is m =
-      deal_split (eqb b m) (eqb s m) (pos n) (pos l.carry) (pos v)
-      ∙ ap (λ (z : ℤ). between b s (pos n) m *ℤ pos l.carry -ℤ between b s z m) (sym paid_is)
+  gain_is m = cc (deal_split (eqb b m) (eqb s m) (pos n) (pos l.carry) (pos v), paid_is)
 
   numbers_same : numbers new ≡ numbers old
   numbers_same = same_numbers mid is S (sym (ap (λ (r : Account). r.number) other_row)) ∙ same_numbers old ib B refl
@@ -237,11 +217,8 @@ module _ (a : Answers) (t : Table) (g : Ledger) (day : ℕ) (name : Name) (b s p
 
   lots_balanced : (j : ℕ) (x : Bool) → eqb j p ≡ x → total (lots_in j) new ≡ pos 0
   lots_balanced j true e =
-      deal (lots_in j) (pos n) (neg_ℤ (pos n)) (b_lots j true e) (s_lots j true e)
-      ∙ ap₂ (λ (x y : ℤ). x +ℤ y) (h.balanced.lots j) (cancel (pos n))
-  lots_balanced j false e =
-      deal (lots_in j) (pos 0) (pos 0) (b_lots j false e) (s_lots j false e)
-      ∙ ap (λ (x : ℤ). x +ℤ pos 0) (h.balanced.lots j)
+      cc (deal (lots_in j) (pos n) (neg_ℤ (pos n)) (b_lots j true e) (s_lots j true e), h.balanced.lots j, +ℤ_invr (pos n))
+  lots_balanced j false e = cc (deal (lots_in j) (pos 0) (pos 0) (b_lots j false e) (s_lots j false e), h.balanced.lots j)
 
   trade_balanced : Balanced (trade_table a t day name b s price n)
   trade_balanced =
@@ -249,7 +226,7 @@ module _ (a : Answers) (t : Table) (g : Ledger) (day : ℕ) (name : Name) (b s p
         lots = λ j. lots_balanced j (eqb j p) refl;
         equity =
             deal (λ r. r.equity) gain (neg_ℤ gain) refl lost
-            ∙ ap₂ (λ (x y : ℤ). x +ℤ y) h.balanced.equity (cancel gain);
+            ∙ ap₂ (λ (x y : ℤ). x +ℤ y) h.balanced.equity (+ℤ_invr gain);
       }
 
   -- a row is the buyer's, the seller's or as it was
@@ -263,8 +240,8 @@ module _ (a : Answers) (t : Table) (g : Ledger) (day : ℕ) (name : Name) (b s p
   free_at : (j : ℕ) → get_or t.lines j Free ≡ Free → (i : ℕ) → lots_in j (get_or new i no_account) ≡ pos 0
   free_at j e i =
       row_by (λ (r : Account). lots_in j r ≡ pos 0)
-      (b_lots j false (elsewhere j e) ∙ (sym (plus_zero (lots_in j rb)) ∙ h.well.orderly.free j e ib))
-      (s_lots j false (elsewhere j e) ∙ (sym (plus_zero (lots_in j rs)) ∙ h.well.orderly.free j e is))
+      (cc (b_lots j false (elsewhere j e), plus_zero (lots_in j rb), h.well.orderly.free j e ib))
+      (cc (s_lots j false (elsewhere j e), plus_zero (lots_in j rs), h.well.orderly.free j e is))
       i (h.well.orderly.free j e i)
 
   -- a row in use is not spare

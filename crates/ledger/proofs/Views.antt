@@ -1,5 +1,5 @@
 -- The view of a book's lines, after the rows or one line have changed.
-use Rattle.std.proofs.Common.{◌≡◌, ℕ, zero, suc, ◌+◌, ◌<◌, Bool, false, cond, List, [], ◌∷◌, length, get_or, set, ℤ, pos, ◌+ℤ◌, Some, sym, refl, ap, ◌∙◌, subst, ap₂, arith}
+use Rattle.std.proofs.Common.{◌≡◌, ℕ, zero, suc, ◌+◌, ◌<◌, Bool, false, cond, List, [], ◌∷◌, length, get_or, set, ℤ, pos, Some, sym, refl, ap, ◌∙◌, subst, ap₂, arith}
 use Rattle.std.proofs.lemmas.Bool.{or_parts, cond-true, cond-false}
 use Rattle.lookup.specs.Seek.{any_of}
 use Rattle.terms.specs.declared.code.Series.{Series}
@@ -37,9 +37,52 @@ not_held k ls i l n e = not_series l.terms.series k (none_taken (holds (Some k))
 
 -- a line before the one of a name has another name
 pub other_name : (k : Series) (x : Line) (ls : List Place) (i : ℕ) (l : Line) → any_of (holds (Some x.terms.series)) ls ≡ false → get_or ls i Free ≡ Taken l → l.terms.series ≡ k → same_series x.terms.series k ≡ false
-other_name k x ls i l n e named =
-    series_turn x.terms.series k
-    ∙ (ap (λ (s : Series). same_series s x.terms.series) (sym named) ∙ none_taken (holds (Some x.terms.series)) ls i l n e)
+other_name k x ls i l n e named = cc (series_turn x.terms.series k, none_taken (holds (Some x.terms.series)) ls i l n e)
+
+-- the way through the places to the line of a name: what holds there, and of a place before another
+-- line or a free place if it holds after it
+module _ (k : Series) (P : ℕ) where
+  -- past the line no other has the name
+  pub walk_past :
+      (Q : ℕ → List Place → Type 0) →
+      ((j : ℕ) → Q j []) →
+      ((j : ℕ) (ls : List Place) → Q (suc j) ls → Q j (Free ∷ ls)) →
+      ((j : ℕ) (x : Line) (ls : List Place) → same_series x.terms.series k ≡ false → (j ≡ P → ⊥) → Q (suc j) ls → Q j (Taken x ∷ ls)) →
+      (j : ℕ) (ls : List Place) →
+      any_of (holds (Some k)) ls ≡ false →
+      P < j →
+      Q j ls
+  walk_past Q end free other j [] n h = end j
+  walk_past Q end free other j (Free ∷ ls) n h = free j ls (walk_past Q end free other (suc j) ls n (omega arith))
+  walk_past Q end free other j (Taken x ∷ ls) n h =
+      let q = or_parts (same_series x.terms.series k) (any_of (holds (Some k)) ls) n in
+      other j x ls q.0 (λ e. omega arith) (walk_past Q end free other (suc j) ls q.1 (omega arith))
+
+  pub walk :
+      (l : Line) →
+      l.terms.series ≡ k →
+      (Q : ℕ → List Place → ℕ → Type 0) →
+      ((ls : List Place) → any_of (holds (Some k)) ls ≡ false → Q P (Taken l ∷ ls) 0) →
+      ((j : ℕ) (ls : List Place) (i : ℕ) → Q (suc j) ls i → Q j (Free ∷ ls) (suc i)) →
+      ((j : ℕ) (x : Line) (ls : List Place) (i : ℕ) → same_series x.terms.series k ≡ false → (j ≡ P → ⊥) → Q (suc j) ls i → Q j (Taken x ∷ ls) (suc i)) →
+      (j : ℕ) (ls : List Place) (i : ℕ) →
+      NamesDiffer ls →
+      get_or ls i Free ≡ Taken l →
+      j + i ≡ P →
+      Q j ls i
+  walk l named Q here free other j [] i u e at = not_both l e
+  walk l named Q here free other j (Free ∷ ls) zero u e at = not_both l e
+  walk l named Q here free other j (Free ∷ ls) (suc i) u e at =
+      free j ls i (walk l named Q here free other (suc j) ls i u e (omega arith))
+  walk l named Q here free other j (Taken x ∷ ls) zero u e at =
+      let x_is : l ≡ x = cc in
+      let at_P : P ≡ j = omega arith in
+      subst (λ (y : Line). any_of (holds (Some k)) ls ≡ false → Q j (Taken y ∷ ls) 0) x_is
+      (subst (λ (m : ℕ). any_of (holds (Some k)) ls ≡ false → Q m (Taken l ∷ ls) 0) at_P (here ls))
+      (subst (λ (y : Series). any_of (holds (Some y)) ls ≡ false) (ap (λ (y : Line). y.terms.series) (sym x_is) ∙ named) u.0)
+  walk l named Q here free other j (Taken x ∷ ls) (suc i) u e at =
+      other j x ls i (other_name k x ls i l u.0 e named) (λ q. omega arith)
+      (walk l named Q here free other (suc j) ls i u.1 e (omega arith))
 
 -- rows with the same lots
 pub view_ext : (rows rows' : List Account) → ((j : ℕ) → lots_of rows' j ≡ lots_of rows j) → (j : ℕ) (ls : List Place) → view_from rows' j ls ≡ view_from rows j ls
@@ -65,60 +108,42 @@ module _ (rows rows' : List Account) (k : Series) (F : Entry → Entry) (P : ℕ
     (others : (i : ℕ) → (i ≡ P → ⊥) → lots_of rows' i ≡ lots_of rows i)
     (there : F (entry rows P l) ≡ entry rows' P l') where
   left : (j : ℕ) (x : Line) → same_series x.terms.series k ≡ false → (j ≡ P → ⊥) → entry rows' j x ≡ cond (is_named k (entry rows j x)) (F (entry rows j x)) (entry rows j x)
-  left j x n away =
-      ap (λ (f : ℕ → ℤ). record { line = x; lots = f }) (others j away)
-      ∙ sym (cond-false (same_series x.terms.series k) (F (entry rows j x)) (entry rows j x) n)
+  left j x n away = cc (others j away, cond-false (same_series x.terms.series k) (F (entry rows j x)) (entry rows j x) n)
 
   past : (j : ℕ) (ls : List Place) → any_of (holds (Some k)) ls ≡ false → P < j → view_from rows' j ls ≡ at_name k F (view_from rows j ls)
-  past j [] n h = refl
-  past j (Free ∷ ls) n h = past (suc j) ls n (omega arith)
-  past j (Taken x ∷ ls) n h =
-      let q = or_parts (same_series x.terms.series k) (any_of (holds (Some k)) ls) n in
-      ap₂ (λ (e : Entry) (es : List Entry). e ∷ es) (left j x q.0 (λ e. omega arith)) (past (suc j) ls q.1 (omega arith))
-
-  here : (j : ℕ) (x : Line) → x ≡ l → j ≡ P → entry rows' j l' ≡ cond (is_named k (entry rows j x)) (F (entry rows j x)) (entry rows j x)
-  here j x e z =
-      subst (λ (i : ℕ). entry rows' i l' ≡ F (entry rows i x)) (sym z)
-      (subst (λ (y : Line). entry rows' P l' ≡ F (entry rows P y)) (sym e) (sym there))
-      ∙ sym (cond-true (same_series x.terms.series k) (F (entry rows j x)) (entry rows j x)
-      (is_series x.terms.series k (ap (λ (y : Line). y.terms.series) e ∙ named)))
+  past =
+      walk_past k P (λ j ls. view_from rows' j ls ≡ at_name k F (view_from rows j ls)) (λ j. refl) (λ j ls q. q)
+      (λ j x ls n away q. ap₂ (λ (e : Entry) (es : List Entry). e ∷ es) (left j x n away) q)
 
   pub view_amend : (j : ℕ) (ls : List Place) (i : ℕ) → NamesDiffer ls → get_or ls i Free ≡ Taken l → j + i ≡ P → view_from rows' j (set ls i (Taken l')) ≡ at_name k F (view_from rows j ls)
-  view_amend j [] i u e at = not_both l e
-  view_amend j (Free ∷ ls) zero u e at = not_both l e
-  view_amend j (Free ∷ ls) (suc i) u e at = view_amend (suc j) ls i u e (omega arith)
-  view_amend j (Taken x ∷ ls) zero u e at =
-      let x_is : x ≡ l = cc in
-      let n : any_of (holds (Some k)) ls ≡ false =
-      subst (λ (y : Series). any_of (holds (Some y)) ls ≡ false) (ap (λ (y : Line). y.terms.series) x_is ∙ named) u.0 in
-      ap₂ (λ (e : Entry) (es : List Entry). e ∷ es) (here j x x_is (omega arith)) (past (suc j) ls n (omega arith))
-  view_amend j (Taken x ∷ ls) (suc i) u e at =
-      ap₂ (λ (e : Entry) (es : List Entry). e ∷ es)
-      (left j x (other_name k x ls i l u.0 e named) (λ q. omega arith))
-      (view_amend (suc j) ls i u.1 e (omega arith))
+  view_amend =
+      walk k P l named (λ j ls i. view_from rows' j (set ls i (Taken l')) ≡ at_name k F (view_from rows j ls))
+      (λ ls n. ap₂ (λ (e : Entry) (es : List Entry). e ∷ es)
+      (sym (cond-true (same_series l.terms.series k) (F (entry rows P l)) (entry rows P l) (is_series l.terms.series k named) ∙ there))
+      (past (suc P) ls n (omega arith)))
+      (λ j ls i q. q)
+      (λ j x ls i n away q. ap₂ (λ (e : Entry) (es : List Entry). e ∷ es) (left j x n away) q)
 
 -- a sum over the entries of a name is that of its line
 module _ (rows : List Account) (k : Series) (h : Entry → ℤ) (P : ℕ) (l : Line) (named : l.terms.series ≡ k) where
-  none_named : (j : ℕ) (ls : List Place) → any_of (holds (Some k)) ls ≡ false → total (if_so (is_named k) h) (view_from rows j ls) ≡ pos 0
-  none_named j [] n = refl
-  none_named j (Free ∷ ls) n = none_named (suc j) ls n
-  none_named j (Taken x ∷ ls) n =
-      let q = or_parts (same_series x.terms.series k) (any_of (holds (Some k)) ls) n in
-      ap₂ (λ (a b : ℤ). a +ℤ b) (cond-false (same_series x.terms.series k) (h (entry rows j x)) (pos 0) q.0) (none_named (suc j) ls q.1)
+  abbrev sum : ℕ → List Place → ℤ
+  sum j ls = total (if_so (is_named k) h) (view_from rows j ls)
+
+  not_counted : (j : ℕ) (x : Line) (ls : List Place) (z : ℤ) → same_series x.terms.series k ≡ false → sum (suc j) ls ≡ z → sum j (Taken x ∷ ls) ≡ z
+  not_counted j x ls z n q =
+      second_alone (if_so (is_named k) h (entry rows j x)) (sum (suc j) ls) z
+      (cond-false (same_series x.terms.series k) (h (entry rows j x)) (pos 0) n) q
+
+  none_named : (j : ℕ) (ls : List Place) → any_of (holds (Some k)) ls ≡ false → P < j → sum j ls ≡ pos 0
+  none_named =
+      walk_past k P (λ j ls. sum j ls ≡ pos 0) (λ j. refl) (λ j ls q. q) (λ j x ls n away q. not_counted j x ls (pos 0) n q)
 
   pub view_pick : (j : ℕ) (ls : List Place) (i : ℕ) → NamesDiffer ls → get_or ls i Free ≡ Taken l → j + i ≡ P → total (if_so (is_named k) h) (view_from rows j ls) ≡ h (entry rows P l)
-  view_pick j [] i u e at = not_both l e
-  view_pick j (Free ∷ ls) zero u e at = not_both l e
-  view_pick j (Free ∷ ls) (suc i) u e at = view_pick (suc j) ls i u e (omega arith)
-  view_pick j (Taken x ∷ ls) zero u e at =
-      let x_is : x ≡ l = cc in
-      let is_k : x.terms.series ≡ k = ap (λ (y : Line). y.terms.series) x_is ∙ named in
-      let z : j ≡ P = omega arith in
-      first_alone (if_so (is_named k) h (entry rows j x)) (total (if_so (is_named k) h) (view_from rows (suc j) ls)) (h (entry rows P l))
-      (cond-true (same_series x.terms.series k) (h (entry rows j x)) (pos 0) (is_series x.terms.series k is_k)
-      ∙ ap₂ (λ (y : Line) (i : ℕ). h (entry rows i y)) x_is z)
-      (none_named (suc j) ls (subst (λ (y : Series). any_of (holds (Some y)) ls ≡ false) is_k u.0))
-  view_pick j (Taken x ∷ ls) (suc i) u e at =
-      second_alone (if_so (is_named k) h (entry rows j x)) (total (if_so (is_named k) h) (view_from rows (suc j) ls)) (h (entry rows P l))
-      (cond-false (same_series x.terms.series k) (h (entry rows j x)) (pos 0) (other_name k x ls i l u.0 e named))
-      (view_pick (suc j) ls i u.1 e (omega arith))
+  view_pick =
+      walk k P l named (λ j ls i. sum j ls ≡ h (entry rows P l))
+      (λ ls n.
+      first_alone (if_so (is_named k) h (entry rows P l)) (sum (suc P) ls) (h (entry rows P l))
+      (cond-true (same_series l.terms.series k) (h (entry rows P l)) (pos 0) (is_series l.terms.series k named))
+      (none_named (suc P) ls n (omega arith)))
+      (λ j ls i q. q)
+      (λ j x ls i n away q. not_counted j x ls (h (entry rows P l)) n q)

@@ -1,7 +1,7 @@
 -- What every run keeps of its table, besides balance and agreement.
-use Rattle.std.proofs.Common.{◌≡◌, ℕ, ◌<◌, ◌≤◌, ◌⊎◌, List, map, length, get_or, take, set, ℤ, pos, sym, refl, ap, ◌∙◌, subst, inl, inr, arith}
-use Rattle.std.proofs.lemmas.List.{get_or-set_same, get_or-set_other, take-map}
-use Rattle.std.proofs.lemmas.Bool.{cases_eq}
+use Rattle.std.proofs.Common.{◌≡◌, ℕ, ◌<◌, ◌≤◌, List, map, length, get_or, take, set, ℤ, pos, refl, arith}
+use Rattle.std.proofs.lemmas.Grind.{common_steps}
+use Rattle.std.proofs.lemmas.List.{take-map}
 use Rattle.terms.specs.declared.code.Series.{Series}
 use Rattle.terms.specs.Family.{Answers}
 use Rattle.rows.specs.Rows.{places, rows, lots_in, no_account, place, line_at, account_at}
@@ -43,28 +43,17 @@ number_at = map_at (λ r. r.number) no_account 0 refl
 
 -- rows with the same numbers have the same open accounts
 pub same_open : (c : ℕ) (rs rs' : List Account) → numbers rs' ≡ numbers rs → map (λ (r : Account). r.number) (take c rs') ≡ map (λ (r : Account). r.number) (take c rs)
-same_open c rs rs' e =
-    sym (take-map (λ (r : Account). r.number) c rs') ∙ (ap (take c) e ∙ take-map (λ (r : Account). r.number) c rs)
+same_open c rs rs' e = cc (take-map (λ (r : Account). r.number) c rs', take-map (λ (r : Account). r.number) c rs)
 
 -- a sum over the ledger's entries of a name is that of the line
 pub pick : {a : Answers} (t : Table) (g : Ledger) (k : Series) → Holds a t g → Live t k → (f : Entry → ℤ) → total (if_so (is_named k) f) g.lines ≡ f (entry t.accounts (place t k) (line_at t (place t k)))
 pick {a} t g k h found f =
-    sym (total_perm (if_so (is_named k) f) h.agrees.lines)
-    ∙ view_pick t.accounts k f (place t k) (line_at t (place t k)) found.named
-    0 t.lines (place t k) h.well.orderly.names found.taken (omega arith)
+    cc (
+      total_perm (if_so (is_named k) f) h.agrees.lines,
+      view_pick t.accounts k f (place t k) (line_at t (place t k)) found.named 0 t.lines (place t k) h.well.orderly.names found.taken (omega arith),
+    )
 
 -- a new number keeps numbers different
 module _ (ns : List ℕ) (c n : ℕ) (within : c < length ns) (new : (j : ℕ) → get_or ns j 0 ≡ n → ⊥) (differ : NumbersDiffer ns) where
-  at_new : (i : ℕ) → i ≡ c → get_or (set ns c n) i 0 ≡ n
-  at_new i e = subst (λ (m : ℕ). get_or (set ns c n) m 0 ≡ n) (sym e) (get_or-set_same ns c n 0 within)
-
-  differ_by : (i j : ℕ) → (i ≡ c) ⊎ (i ≡ c → ⊥) → (j ≡ c) ⊎ (j ≡ c → ⊥) → 1 ≤ get_or (set ns c n) i 0 → get_or (set ns c n) i 0 ≡ get_or (set ns c n) j 0 → i ≡ j
-  differ_by i j (inl p) (inl q) h e = p ∙ sym q
-  differ_by i j (inl p) (inr q) h e = absurd (new j (sym (get_or-set_other ns c j n 0 q) ∙ (sym e ∙ at_new i p)))
-  differ_by i j (inr p) (inl q) h e = absurd (new i (sym (get_or-set_other ns c i n 0 p) ∙ (e ∙ at_new j q)))
-  differ_by i j (inr p) (inr q) h e =
-      let is = get_or-set_other ns c i n 0 p in
-      differ i j (subst (λ (m : ℕ). 1 ≤ m) is h) (sym is ∙ (e ∙ get_or-set_other ns c j n 0 q))
-
   pub differ_set : NumbersDiffer (set ns c n)
-  differ_set i j h e = differ_by i j (cases_eq i c) (cases_eq j c) h e
+  differ_set i j h e = grind (arith, common_steps, new, differ)

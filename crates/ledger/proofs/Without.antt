@@ -1,7 +1,7 @@
 -- The lines but for that of a name: their order, sums over them, and the view once the line's place
 -- is free.
-use Rattle.std.proofs.Common.{◌≡◌, ℕ, zero, suc, ◌+◌, ◌<◌, Bool, true, false, cond, List, [], ◌∷◌, get_or, set, ℤ, pos, ◌+ℤ◌, Some, sym, refl, ap, ◌∙◌, subst, ap₂, arith}
-use Rattle.std.proofs.lemmas.Bool.{or_parts, cond-true, cond-false}
+use Rattle.std.proofs.Common.{◌≡◌, ℕ, suc, ◌+◌, ◌<◌, Bool, true, false, cond, List, [], ◌∷◌, get_or, set, ℤ, pos, ◌+ℤ◌, Some, sym, refl, ◌∙◌, arith}
+use Rattle.std.proofs.lemmas.Bool.{cond-true, cond-false}
 use Rattle.std.proofs.lemmas.Int.{ints}
 use Rattle.lookup.specs.Seek.{any_of}
 use Rattle.terms.specs.declared.code.Series.{Series}
@@ -14,7 +14,7 @@ use Rattle.ledger.specs.Ledger.{Entry, total, is_named, if_so, without}
 use Rattle.ledger.specs.Agreement.{Perm, none, keep, swap, join, lots_of, view_from, NamesDiffer}
 use Rattle.ledger.proofs.Sums.{perm_refl}
 use Rattle.ledger.proofs.SameSeries.{is_series}
-use Rattle.ledger.proofs.Views.{entry, not_both, other_name}
+use Rattle.ledger.proofs.Views.{entry, walk_past, walk}
 
 -- in another order
 keep_by : (b : Bool) (x : Entry) {xs ys : List Entry} → Perm xs ys → Perm (cond b xs (x ∷ xs)) (cond b ys (x ∷ ys))
@@ -49,25 +49,18 @@ module _ (rows rows' : List Account) (k : Series) (P : ℕ) (l : Line)
     (named : l.terms.series ≡ k)
     (others : (i : ℕ) → (i ≡ P → ⊥) → lots_of rows' i ≡ lots_of rows i) where
   left : (j : ℕ) (x : Line) (es es' : List Entry) → same_series x.terms.series k ≡ false → (j ≡ P → ⊥) → es' ≡ without k es → entry rows' j x ∷ es' ≡ without k (entry rows j x ∷ es)
-  left j x es es' n away e =
-      ap₂ (λ (f : ℕ → ℤ) (es : List Entry). (record { line = x; lots = f }) ∷ es) (others j away) e
-      ∙ sym (cond-false (same_series x.terms.series k) (without k es) (entry rows j x ∷ without k es) n)
+  left j x es es' n away e = cc (others j away, cond-false (same_series x.terms.series k) (without k es) (entry rows j x ∷ without k es) n)
 
   past : (j : ℕ) (ls : List Place) → any_of (holds (Some k)) ls ≡ false → P < j → view_from rows' j ls ≡ without k (view_from rows j ls)
-  past j [] n h = refl
-  past j (Free ∷ ls) n h = past (suc j) ls n (omega arith)
-  past j (Taken x ∷ ls) n h =
-      let q = or_parts (same_series x.terms.series k) (any_of (holds (Some k)) ls) n in
-      left j x _ _ q.0 (λ e. omega arith) (past (suc j) ls q.1 (omega arith))
+  past =
+      walk_past k P (λ j ls. view_from rows' j ls ≡ without k (view_from rows j ls)) (λ j. refl) (λ j ls q. q)
+      (λ j x ls n away q. left j x _ _ n away q)
 
   pub view_without : (j : ℕ) (ls : List Place) (i : ℕ) → NamesDiffer ls → get_or ls i Free ≡ Taken l → j + i ≡ P → view_from rows' j (set ls i Free) ≡ without k (view_from rows j ls)
-  view_without j [] i u e at = not_both l e
-  view_without j (Free ∷ ls) zero u e at = not_both l e
-  view_without j (Free ∷ ls) (suc i) u e at = view_without (suc j) ls i u e (omega arith)
-  view_without j (Taken x ∷ ls) zero u e at =
-      let x_is : x ≡ l = cc in
-      let is_k : x.terms.series ≡ k = ap (λ (y : Line). y.terms.series) x_is ∙ named in
-      past (suc j) ls (subst (λ (y : Series). any_of (holds (Some y)) ls ≡ false) is_k u.0) (omega arith)
-      ∙ sym (cond-true (same_series x.terms.series k) (without k (view_from rows (suc j) ls)) (entry rows j x ∷ without k (view_from rows (suc j) ls)) (is_series x.terms.series k is_k))
-  view_without j (Taken x ∷ ls) (suc i) u e at =
-      left j x _ _ (other_name k x ls i l u.0 e named) (λ q. omega arith) (view_without (suc j) ls i u.1 e (omega arith))
+  view_without =
+      walk k P l named (λ j ls i. view_from rows' j (set ls i Free) ≡ without k (view_from rows j ls))
+      (λ ls n.
+      past (suc P) ls n (omega arith)
+      ∙ sym (cond-true (same_series l.terms.series k) (without k (view_from rows (suc P) ls)) (entry rows P l ∷ without k (view_from rows (suc P) ls)) (is_series l.terms.series k named)))
+      (λ j ls i q. q)
+      (λ j x ls i n away q. left j x _ _ n away q)

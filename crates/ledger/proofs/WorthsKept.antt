@@ -1,11 +1,10 @@
 -- Every adjustment that a run accepts keeps the worth of a lot.
-use Rattle.std.proofs.Common.{ℕ, Bool, cond, List, [], ◌∷◌, ap, ◌∙◌}
+use Rattle.std.proofs.Common.{ℕ, List, [], ◌∷◌}
 use Rattle.terms.specs.Family.{Answers, Law}
 use Rattle.terms.specs.declared.event.Event.{Event}
 use Rattle.terms.proofs.WorthKept.{worth_kept}
 use Rattle.rows.specs.Adjustment.{adjusted_line}
 use Rattle.rows.specs.Calls.{step, after}
-use Rattle.rows.specs.declared.table.Place.TheVariants.{Taken}
 use Rattle.rows.specs.declared.table.Table.{Table}
 use Rattle.rows.specs.declared.call.Call.{Call}
 use Rattle.rows.specs.declared.call.Call.TheVariants.{Opening, Listing, Trade, Mark, Adjustment, Fixing, Expiry}
@@ -18,9 +17,7 @@ module _ (a : Answers) (law : Law a) where
   lots_kept day e t j l at taken =
       record {
         line = adjusted_line a day e l;
-        stands =
-            taken_map (adjusts_places a day e) t.lines j l at
-            ∙ ap (λ (b : Bool). Taken (cond b (adjusted_line a day e l) l)) taken;
+        stands = cc (taken_map (adjusts_places a day e) t.lines j l at);
         worth = worth_kept a law e l.terms;
       }
 

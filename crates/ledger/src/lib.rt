@@ -27,11 +27,7 @@ pub fn run<F: Family>(calls: &[Call]) -> Book<F>
     ensures rows { RowsKept result.table }
     ensures worth { WorthsKept F.Family.answers empty calls.now }
 {
-    let mut book = Book::<F>::new();
-    for i in 0..calls.len() {
-        let _ = book.make(calls[i]);
-    }
-    book
+    run_noted(calls, &mut [])
 }
 
 /// Such a run, with each call's refusal noted in `given`, as far as it reaches.
@@ -41,39 +37,24 @@ pub fn run_noted<F: Family>(calls: &[Call], given: &mut [Option<Refusal>]) -> Bo
     ensures kept { Promises F.Family.answers calls.now result.table }
 {
     let mut book = Book::<F>::new();
-    for i in 0..calls.len() {
-        let answer = book.make(calls[i]);
-        note(given, i, refusal_in(answer));
+    for (i, call) in calls.iter().enumerate() {
+        let refusal = book.make(*call).err();
+        // By the index: `get_mut` and `iter_mut` leave open what a slice holds afterwards.
+        if i < given.len() {
+            given[i] = refusal;
+        }
     }
     book
-}
-
-fn note(given: &mut [Option<Refusal>], i: usize, refusal: Option<Refusal>)
-    ensures { given.new ≡ slice_set given.old i refusal }
-{
-    if i < given.len() {
-        given[i] = refusal;
-    }
 }
 
 /// Each call's refusal in such a run, none where it was accepted.
 pub fn refusals<F: Family>(heap: Global, calls: &[Call]) -> Result<Vec<Option<Refusal>>, AllocError>
     ensures { IfOk result (λ v. map outcome_number v.items ≡ numbers_given F.Family.answers empty calls.now) }
 {
-    let mut book = Book::<F>::new();
-    let mut given = Vec::new(heap);
-    for i in 0..calls.len() {
-        let answer = book.make(calls[i]);
-        given.push(refusal_in(answer))?;
-    }
+    let mut given = vec![in heap; None; calls.len()]?;
+    run_noted::<F>(calls, &mut given);
     Ok(given)
 }
 
-fn refusal_in(answer: Result<(), Refusal>) -> Option<Refusal>
-    ensures { outcome_number result ≡ answer_of answer }
-{
-    match answer {
-        Ok(()) => None,
-        Err(refusal) => Some(refusal),
-    }
-}
+#[cfg(test)]
+mod tests;
