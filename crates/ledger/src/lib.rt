@@ -39,7 +39,7 @@ pub fn run_noted<F: Family>(calls: &[Call], given: &mut [Option<Refusal>]) -> Bo
     let mut book = Book::<F>::new();
     for (i, call) in calls.iter().enumerate() {
         let refusal = book.make(*call).err();
-        // By the index: `get_mut` and `iter_mut` leave open what a slice holds afterwards.
+        // By the index: `get_mut` leaves open what the slice holds afterwards, so the proof stays open.
         if i < given.len() {
             given[i] = refusal;
         }

@@ -20,6 +20,7 @@ impl Entries {
         ensures { result.dollars ≡ map (entry F.Family.answers onset.now.day onset.now.event) lines.now }
     {
         let mut dollars = [0; PLACES];
+        // By the index: of a `zip` over `iter_mut` the check knows the length alone, and the proof stays open.
         for (j, place) in lines.iter().enumerate() {
             dollars[j] = booked::<F>(place, onset);
         }

@@ -6,7 +6,7 @@ ghost use Rattle.rows.specs.Fits.{entry_fits};
 use rows::table::PLACES;
 use terms::units::Dollars;
 
-/// Dollars for each bought lot, by place.
+/// Dollars for each bought lot, by place as the lots of an account are, in a fixed block of memory.
 #[derive(Clone, Copy)]
 pub struct Entries {
     pub dollars: [Dollars; PLACES],

@@ -49,7 +49,7 @@ pub enum Call {
     },
 }
 
-/// What an accepted call answers.
+/// What an accepted call answers. (An `Option<usize>` would not say what is counted.)
 #[derive(Clone, Copy, PartialEq, Eq, Debug)]
 pub enum Done {
     Made,

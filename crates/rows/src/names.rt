@@ -6,11 +6,9 @@ use terms::code::{Code, Name, Prefix, Series};
 use terms::family::Family;
 use terms::right::Right;
 
+// Where there is none: a call judges a name before it uses its series, and would unwrap an `Option` again.
 const NO_SERIES: Series = Series {
-    prefix: Prefix {
-        first: 0,
-        second: 0,
-    },
+    prefix: Prefix::NONE,
     level: 0,
     expiry: 0,
     right: Right::Without,
@@ -37,15 +35,13 @@ pub fn series_of<F: Family>(name: &Name) -> Series
     ensures { result ≡ series_of F.Family.answers name.now }
 {
     match (name.code.level::<F>(), Right::try_from(name.right)) {
-        (Some(level), Ok(right)) => {
-            Series {
-                prefix: name.code.prefix,
-                level,
-                expiry: name.expiry,
-                right,
-                strike: name.strike,
-            }
-        }
+        (Some(level), Ok(right)) => Series {
+            prefix: name.code.prefix,
+            level,
+            expiry: name.expiry,
+            right,
+            strike: name.strike,
+        },
         _ => NO_SERIES,
     }
 }
@@ -54,5 +50,5 @@ pub fn series_of<F: Family>(name: &Name) -> Series
 pub fn is_standard<F: Family>(code: &Code) -> bool
     ensures { result ≡ is_standard F.Family.answers code.now }
 {
-    code.prefix.is_well_formed() && code.letter as char == F::standard_letter()
+    code.prefix.is_well_formed() && char::from(code.letter) == F::standard_letter()
 }

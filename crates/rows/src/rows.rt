@@ -55,13 +55,11 @@ impl Keyed for Account {
     }
 }
 
+// Where there is none: a call asks for the line of a place that it has found, and would unwrap an `Option` again.
 const NO_LINE: Line = Line {
     terms: Terms {
         series: Series {
-            prefix: Prefix {
-                first: 0,
-                second: 0,
-            },
+            prefix: Prefix::NONE,
             level: 0,
             expiry: 0,
             right: Right::Without,

@@ -24,14 +24,15 @@ pub struct Account {
     pub lots: [i32; PLACES],
 }
 
-/// A place for a live line.
+/// A place for a live line. (Not an `Option`, since a place has a key, and `Keyed` is another crate's trait.)
 #[derive(Clone, Copy, PartialEq, Eq, Debug)]
 pub enum Place {
     Free,
     Taken(Line),
 }
 
-/// A book's rows, the number of open accounts and the day of the last accepted call.
+/// A book's rows, the number of open accounts and the day of the last accepted call. Arrays, with the number
+/// of rows in use beside them, and lots by the place of their line: a book is a fixed block of memory.
 #[derive(Clone, Copy, PartialEq, Eq, Debug)]
 pub struct Table {
     pub lines: [Place; PLACES],

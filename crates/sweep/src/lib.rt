@@ -4,7 +4,8 @@
 ghost use Rattle.std.specs.Prelude.{◌≡◌, Bool, true, map};
 ghost use Rattle.sweep.specs.Sweep.{all_of};
 
-/// A change of a kind of row.
+/// A change of a kind of row. (No closure: of one that changes what it is lent, the library says only that it was
+/// called, and the proof of what becomes of the rows stays open.)
 pub trait Change {
     type Row;
 
