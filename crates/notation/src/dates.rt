@@ -85,11 +85,11 @@ fn few_digits(text: &[u8]) -> Option<u16>
     ensures value { result ≡ (if numeral text.now then Some (number 0 text.now) else None) }
     ensures bound { IfSome result (λ n. n < 10 ^ length text.now) }
 {
-    if !is_numeral(text) {
-        return None;
+    if is_numeral(text) {
+        u16::try_from(number_in(text)?).ok()
+    } else {
+        None
     }
-    let n = number_in(text)?;
-    Some(n as u16)
 }
 
 fn is_leap(year: u16) -> bool
@@ -132,11 +132,7 @@ fn days_before_month(year: u16, month: u8) -> u32
     ensures value { result ≡ days_before_month year month }
     ensures bound { result < 2 ^ 9 }
 {
-    let mut days = 0;
-    for m in 1..month {
-        days += u32::from(month_length(year, m));
-    }
-    days
+    (1..month).map(|m| u32::from(month_length(year, m))).sum()
 }
 
 // The year of a day, and the days before it in that year.
