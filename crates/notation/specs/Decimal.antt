@@ -1,5 +1,5 @@
 -- What a decimal number is, and what it is worth in units of a power of ten.
-use Rattle.std.specs.Prelude.{ℕ, zero, suc, ◌+◌, ◌-◌, ◌*◌, ◌/◌, ◌%◌, ◌^◌, Bool, cond, ◌&&◌, ◌||◌, List, [], ◌∷◌, length, take, drop, Some, None, Err, Option, Result, ◌==◌, nat_lt}
+use Rattle.std.specs.Prelude.{ℕ, zero, suc, ◌+◌, ◌-◌, ◌*◌, ◌/◌, ◌%◌, ◌^◌, Bool, cond, ◌&&◌, ◌||◌, List, length, take, drop, Some, None, Err, Option, Result, ◌==◌, nat_lt}
 use Rattle.notation.specs.declared.numbers.Decimal.{Decimal}
 use Rattle.notation.specs.declared.numbers.Misread.{Misread}
 use Rattle.notation.specs.declared.numbers.Misread.TheVariants.{NotANumber, TooManyDecimals, TooLarge}

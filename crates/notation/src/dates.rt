@@ -14,7 +14,7 @@ pub struct Date {
 }
 
 impl Date {
-    // The date of a day, the only one that has it.
+    // The date of a day, the only one that has it. It is no `From`, which would not say what the u16 counts.
     pub fn from_day(day: u16) -> Date
         ensures named { to_day result ≡ Some day }
         ensures only { (d : Date) → to_day d ≡ Some day → d ≡ result }
@@ -58,7 +58,7 @@ impl fmt::Display for Date {
     }
 }
 
-// Reads a date such as 2022-06-21, and gives its day.
+// Reads a date such as 2022-06-21, and gives its day. It takes bytes, since a `&str` asks more of a caller.
 pub fn read_date(text: &[u8]) -> Option<u16>
     ensures { result ≡ read_date text.now }
 {
@@ -66,7 +66,7 @@ pub fn read_date(text: &[u8]) -> Option<u16>
         return None;
     }
     let date = Date {
-        year: few_digits(&text[0..4])?,
+        year: few_digits(&text[..4])?,
         month: few_digits(&text[5..7])? as u8,
         day: few_digits(&text[8..10])? as u8,
     };
@@ -135,7 +135,8 @@ fn days_before_month(year: u16, month: u8) -> u32
     (1..month).map(|m| u32::from(month_length(year, m))).sum()
 }
 
-// The year of a day, and the days before it in that year.
+// The year of a day, and the days before it in that year. A `while`: `find` over a range of years would
+// answer an Option, with a None that never comes.
 fn split_year(day: u16) -> (u16, u16)
     ensures first { 2000 ≤ result.0 }
     ensures sum { days_before_year result.0 + result.1 ≡ day }
@@ -150,7 +151,7 @@ fn split_year(day: u16) -> (u16, u16)
     (year, rest)
 }
 
-// The month of a day of a year, and the days before it in that month.
+// The month of a day of a year, and the days before it in that month. A `while`, as for the year.
 fn split_month(year: u16, day: u16) -> (u8, u16)
     requires { day < year_length year }
     ensures first { 1 ≤ result.0 }

@@ -25,7 +25,8 @@ impl fmt::Display for Misread {
     }
 }
 
-// Reads a number such as 78 or 0.05, exactly, in units of 10^-places.
+// Reads a number such as 78 or 0.05, exactly, in units of 10^-places. It takes bytes, since a `&str` asks
+// more of a caller.
 pub fn read_decimal(text: &[u8], places: u8) -> Result<u64, Misread>
     ensures { result ≡ read_decimal text.now places }
 {
@@ -106,7 +107,7 @@ pub struct Decimal {
 }
 
 impl Decimal {
-    // The same number, without the zeros that its decimals end in.
+    // The same number, without the zeros that its decimals end in. A `while`: their number is not known before.
     pub fn trimmed(mut self) -> Decimal
         ensures { result ≡ trim self.value self.places }
     {

@@ -1,10 +1,9 @@
 use Rattle.notation.proofs.Days.{months_listed, months_short}
 use Rattle.notation.proofs.dates.days_before_month.Goals as goal
 use Rattle.notation.specs.Calendar.{month_length, days_before_month}
-use Rattle.std.proofs.Common.{◌≡◌, ◌-◌, map, refl, ◌∙◌, rules, tests, arith}
+use Rattle.std.proofs.Common.{◌≡◌, ◌-◌, refl, ◌∙◌, rules, tests, arith}
 use Rattle.std.proofs.lemmas.Iterator.{YieldsList-from_range, YieldsList-from_map}
 use Rattle.std.proofs.lemmas.Iterator.Consumers.{sum_from_yields_List, fits_from_yields_list}
-use Rattle.std.proofs.lemmas.Bool.Decides.{nat_tests}
 
 pub sum-requires-clause-fits : goal.sum-requires-clause-fits
 sum-requires-clause-fits c =

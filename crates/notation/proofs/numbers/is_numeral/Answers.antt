@@ -1,6 +1,5 @@
 use Rattle.notation.proofs.numbers.is_numeral.Goals as goal
-use Rattle.std.proofs.Common.{◌≡◌, rules, arith}
-use Rattle.std.specs.List.{list_all}
+use Rattle.std.proofs.Common.{rules, arith}
 use Rattle.std.specs.Char.{is_ascii_digit}
 use Rattle.std.proofs.lemmas.Bool.Decides.{nat_tests}
 use Rattle.std.proofs.lemmas.Iterator.Search.{all_from_yields_List}
