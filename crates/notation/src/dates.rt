@@ -44,8 +44,7 @@ impl Date {
         ensures { result ≡ real self.now }
     {
         2000 <= self.year
-            && 1 <= self.month
-            && self.month <= 12
+            && (1..=12).contains(&self.month)
             && 1 <= self.day
             && u16::from(self.day) <= month_length(self.year, self.month)
     }

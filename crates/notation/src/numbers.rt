@@ -30,19 +30,13 @@ impl fmt::Display for Misread {
 pub fn read_decimal(text: &[u8], places: u8) -> Result<u64, Misread>
     ensures { result ≡ read_decimal text.now places }
 {
-    let Some(point) = point_in(text) else {
-        return if is_numeral(text) {
-            in_units(text, &[], places)
-        } else {
-            Err(Misread::NotANumber)
-        };
-    };
-    let whole = &text[..point];
-    let decimals = &text[point + 1..];
-    if !is_numeral(whole) || !is_numeral(decimals) {
-        return Err(Misread::NotANumber);
+    match point_in(text) {
+        None if is_numeral(text) => in_units(text, &[], places),
+        Some(point) if is_numeral(&text[..point]) && is_numeral(&text[point + 1..]) => {
+            in_units(&text[..point], &text[point + 1..], places)
+        }
+        _ => Err(Misread::NotANumber),
     }
-    in_units(whole, decimals, places)
 }
 
 // Where the first point stands.
