@@ -59,8 +59,10 @@ pub(crate) fn number_in(text: &[u8]) -> Option<u64>
     requires { All IsAsciiDigit text.now }
     ensures { result ≡ fitted (number 0 text.now) }
 {
-    text.iter()
-        .try_fold(0u64, |n, b| n.checked_mul(10)?.checked_add(u64::from(*b - b'0')))
+    text.iter().try_fold(
+        0u64,
+        |n, b| n.checked_mul(10)?.checked_add(u64::from(*b - b'0')),
+    )
 }
 
 // The number with these digits before and after its point, in units of 10^-places.
