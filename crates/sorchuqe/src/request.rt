@@ -126,20 +126,26 @@ pub(crate) fn read(heap: Global, words: &[&str]) -> Result<Request, Fault> {
             ..NO_EVENT
         },
     };
-    for pair in options.chunks(2) {
-        match pair {
-            [option, _] if times(options, option) > 1 => {
-                return usage(heap, HELP, format_args!("{option} is given twice"));
-            }
-            [option, value] => request.set(heap, Given { option, value })?,
-            [option] => return usage(heap, HELP, format_args!("{option} is without its value")),
-            _ => {}
-        }
-    }
+    request.set_all(heap, options)?;
     Ok(request)
 }
 
 impl Request {
+    // Each option with its value, in their order.
+    fn set_all(&mut self, heap: Global, options: &[&str]) -> Result<(), Fault> {
+        for pair in options.chunks(2) {
+            match pair {
+                [option, _] if times(options, option) > 1 => {
+                    return usage(heap, HELP, format_args!("{option} is given twice"));
+                }
+                [option, value] => self.set(heap, Given { option, value })?,
+                [option] => return usage(heap, HELP, format_args!("{option} is without its value")),
+                _ => {}
+            }
+        }
+        Ok(())
+    }
+
     fn set(&mut self, heap: Global, given: Given) -> Result<(), Fault> {
         match given.option {
             "--price" => self.price = Some(given.small(heap, PRICE)?),
