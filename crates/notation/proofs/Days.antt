@@ -1,15 +1,11 @@
 -- Sums of the lengths of years and months.
-use Rattle.std.proofs.Common.{◌≡◌, ℕ, zero, suc, ◌+◌, ◌-◌, ◌*◌, ◌/◌, ◌^◌, ◌<◌, ◌≤◌, true, false, cond, Some, sym, refl, ap, ◌∙◌, subst, inl, inr, arith}
+use Rattle.std.proofs.Common.{◌≡◌, ℕ, zero, suc, ◌+◌, ◌-◌, ◌*◌, ◌/◌, ◌^◌, ◌<◌, ◌≤◌, true, false, cond, map, Some, sym, refl, ap, ◌∙◌, subst, inl, inr, add-one, arith}
 use Rattle.notation.specs.Calendar.{leap, year_length, month_length, total, days_before_year, days_before_month, to_day}
 use Rattle.notation.specs.declared.dates.Date.{Date}
 use Rattle.std.proofs.lemmas.Bool.{cases_lt, cases_eq, cases_order}
 use Rattle.std.proofs.lemmas.Bool.Decides.{nat_tests}
-
-pub before_year_more : (y : ℕ) → 2000 ≤ y → days_before_year (y + 1) ≡ days_before_year y + year_length y
-before_year_more y h =
-    let next : y + 1 - 2000 ≡ suc (y - 2000) = omega arith in
-    let this : 2000 + (y - 2000) ≡ y = omega arith in
-    ap (total (λ n. year_length (2000 + n))) next ∙ ap (λ x. days_before_year y + year_length x) this
+use Rattle.std.proofs.lemmas.List.FromFn.{sum_by-map-range_with_len_more}
+use Rattle.std.specs.List.{range_with_len, sum}
 
 pub before_month_more : (y m : ℕ) → 1 ≤ m → days_before_month y (m + 1) ≡ days_before_month y m + month_length y m
 before_month_more y m h =
@@ -17,11 +13,19 @@ before_month_more y m h =
     let this : 1 + (m - 1) ≡ m = omega arith in
     ap (total (λ n. month_length y (1 + n))) next ∙ ap (λ x. days_before_month y m + month_length y x) this
 
-pub year_long : (y : ℕ) → 365 ≤ year_length y
-year_long y = elim (leap y) as (λ b. 365 ≤ cond b 366 365) [ true ↦ omega arith | false ↦ omega arith ]
-
-pub month_short : (y m : ℕ) → month_length y m ≤ 31
+month_short : (y m : ℕ) → month_length y m ≤ 31
 month_short y m = grind (arith, nat_tests)
+
+-- the lengths of the first months of a year, as a list
+pub months_listed : (y n : ℕ) → sum (map (month_length y) (range_with_len 1 n)) ≡ total (λ k. month_length y (1 + k)) n
+months_listed y zero = refl
+months_listed y (suc n) =
+    let more = sum_by-map-range_with_len_more (λ x. x) (month_length y) 1 n (1 + n) refl in
+    rw add-one at more ∙ ap (λ x. x + month_length y (1 + n)) (months_listed y n)
+
+pub months_short : (y n : ℕ) → total (λ k. month_length y (1 + k)) n ≤ 31 * n
+months_short y zero = omega arith
+months_short y (suc n) = omega (arith, months_short y n, month_short y (1 + n))
 
 -- the leap years among n years from 2000 on
 leap_step : (n : ℕ) → year_length (2000 + n) + (suc n + 99) / 100 + (n + 3) / 4 + (n + 399) / 400 ≡ 365 + (n + 99) / 100 + (suc n + 3) / 4 + (suc n + 399) / 400
@@ -83,9 +87,6 @@ pub record Real (y m d n : ℕ) : Type 0 where
 
 abbrev pub date : ℕ → ℕ → ℕ → Date
 date y m d = record { year = y; month = m; day = d }
-
-pub to_day_real : (y m d n : ℕ) → Real y m d n → to_day (date y m d) ≡ Some n
-to_day_real y m d n r = grind (arith, nat_tests)
 
 real_from : (y m d n : ℕ) → to_day (date y m d) ≡ Some n → Real y m d n
 real_from y m d n e = record {

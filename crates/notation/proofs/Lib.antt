@@ -1,4 +1,3 @@
 mod DateText
 mod Days
 mod Digits
-mod Trims

@@ -1,24 +1,23 @@
 -- What a decimal number is, and what it is worth in units of a power of ten.
-use Rattle.std.specs.Prelude.{ℕ, zero, suc, ◌+◌, ◌-◌, ◌*◌, ◌/◌, ◌%◌, ◌^◌, Bool, cond, ◌&&◌, ◌||◌, List, [], ◌∷◌, length, take, drop, Some, None, Err, Option, Result, ◌==◌, nat_lt}
+use Rattle.std.specs.Prelude.{ℕ, zero, suc, ◌+◌, ◌-◌, ◌*◌, ◌/◌, ◌%◌, ◌^◌, Bool, cond, ◌&&◌, ◌||◌, List, length, take, drop, Some, None, Err, Option, Result, ◌==◌, nat_lt}
 use Rattle.notation.specs.declared.numbers.Decimal.{Decimal}
 use Rattle.notation.specs.declared.numbers.Misread.{Misread}
 use Rattle.notation.specs.declared.numbers.Misread.TheVariants.{NotANumber, TooManyDecimals, TooLarge}
+use Rattle.std.specs.Char.{is_ascii_digit}
+use Rattle.std.specs.List.{fold, list_all, position_or_len}
 use Rattle.std.specs.Option.{ok_or}
-use Rattle.std.specs.Str.{all_ascii_digits}
 
 -- one digit or more
 abbrev pub numeral : List ℕ → Bool
-numeral text = nat_lt 0 (length text) && all_ascii_digits text
+numeral text = nat_lt 0 (length text) && list_all is_ascii_digit text
 
 -- the number that digits write, read on from n
 abbrev pub number : ℕ → List ℕ → ℕ
-number n [] = n
-number n (c ∷ cs) = number (10 * n + (c - 48)) cs
+number n ds = fold (λ k c. 10 * k + (c - 48)) n ds
 
 -- how many bytes stand before the first point, which is byte 46
 abbrev pub point : List ℕ → ℕ
-point [] = 0
-point (c ∷ cs) = cond (c == 46) 0 (1 + point cs)
+point text = position_or_len (λ c. c == 46) text
 
 abbrev pub before_point : List ℕ → List ℕ
 before_point text = take (point text) text

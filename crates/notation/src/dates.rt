@@ -14,7 +14,7 @@ pub struct Date {
 }
 
 impl Date {
-    // The date of a day, the only one that has it.
+    // The date of a day, the only one that has it. It is no `From`, which would not say what the u16 counts.
     pub fn from_day(day: u16) -> Date
         ensures named { to_day result ≡ Some day }
         ensures only { (d : Date) → to_day d ≡ Some day → d ≡ result }
@@ -44,8 +44,7 @@ impl Date {
         ensures { result ≡ real self.now }
     {
         2000 <= self.year
-            && 1 <= self.month
-            && self.month <= 12
+            && (1..=12).contains(&self.month)
             && 1 <= self.day
             && u16::from(self.day) <= month_length(self.year, self.month)
     }
@@ -58,7 +57,7 @@ impl fmt::Display for Date {
     }
 }
 
-// Reads a date such as 2022-06-21, and gives its day.
+// Reads a date such as 2022-06-21, and gives its day. It takes bytes, since a `&str` asks more of a caller.
 pub fn read_date(text: &[u8]) -> Option<u16>
     ensures { result ≡ read_date text.now }
 {
@@ -66,7 +65,7 @@ pub fn read_date(text: &[u8]) -> Option<u16>
         return None;
     }
     let date = Date {
-        year: few_digits(&text[0..4])?,
+        year: few_digits(&text[..4])?,
         month: few_digits(&text[5..7])? as u8,
         day: few_digits(&text[8..10])? as u8,
     };
@@ -85,11 +84,11 @@ fn few_digits(text: &[u8]) -> Option<u16>
     ensures value { result ≡ (if numeral text.now then Some (number 0 text.now) else None) }
     ensures bound { IfSome result (λ n. n < 10 ^ length text.now) }
 {
-    if !is_numeral(text) {
-        return None;
+    if is_numeral(text) {
+        u16::try_from(number_in(text)?).ok()
+    } else {
+        None
     }
-    let n = number_in(text)?;
-    Some(n as u16)
 }
 
 fn is_leap(year: u16) -> bool
@@ -132,14 +131,11 @@ fn days_before_month(year: u16, month: u8) -> u32
     ensures value { result ≡ days_before_month year month }
     ensures bound { result < 2 ^ 9 }
 {
-    let mut days = 0;
-    for m in 1..month {
-        days += u32::from(month_length(year, m));
-    }
-    days
+    (1..month).map(|m| u32::from(month_length(year, m))).sum()
 }
 
-// The year of a day, and the days before it in that year.
+// The year of a day, and the days before it in that year. A `while`: `find` over a range of years would
+// answer an Option, with a None that never comes.
 fn split_year(day: u16) -> (u16, u16)
     ensures first { 2000 ≤ result.0 }
     ensures sum { days_before_year result.0 + result.1 ≡ day }
@@ -154,7 +150,7 @@ fn split_year(day: u16) -> (u16, u16)
     (year, rest)
 }
 
-// The month of a day of a year, and the days before it in that month.
+// The month of a day of a year, and the days before it in that month. A `while`, as for the year.
 fn split_month(year: u16, day: u16) -> (u8, u16)
     requires { day < year_length year }
     ensures first { 1 ≤ result.0 }

@@ -1,7 +1,8 @@
 // Decimal numbers: read exactly in units of a power of ten, and written again.
-ghost use Rattle.std.specs.Prelude.{◌≡◌, ◌/◌, ◌%◌, ◌^◌, ◌≤◌, true, length};
+ghost use Rattle.std.specs.Prelude.{◌≡◌, ◌/◌, ◌%◌, ◌^◌, ◌≤◌, ◌==◌, length, position, All};
 ghost use Rattle.notation.specs.Decimal.{number, numeral, point, worth, fitted, units, read_decimal, trim};
-ghost use Rattle.std.specs.Str.{all_ascii_digits};
+ghost use Rattle.std.specs.Bool.{OnTrue};
+ghost use Rattle.std.specs.Char.{IsAsciiDigit};
 
 use std::fmt;
 
@@ -24,66 +25,50 @@ impl fmt::Display for Misread {
     }
 }
 
-// Reads a number such as 78 or 0.05, exactly, in units of 10^-places.
+// Reads a number such as 78 or 0.05, exactly, in units of 10^-places. It takes bytes, since a `&str` asks
+// more of a caller.
 pub fn read_decimal(text: &[u8], places: u8) -> Result<u64, Misread>
     ensures { result ≡ read_decimal text.now places }
 {
-    let point = point_in(text);
-    let whole = &text[0..point];
-    if !is_numeral(whole) {
-        return Err(Misread::NotANumber);
+    match point_in(text) {
+        None if is_numeral(text) => in_units(text, &[], places),
+        Some(point) if is_numeral(&text[..point]) && is_numeral(&text[point + 1..]) => {
+            in_units(&text[..point], &text[point + 1..], places)
+        }
+        _ => Err(Misread::NotANumber),
     }
-    if point == text.len() {
-        return in_units(whole, &text[point..], places);
-    }
-    let decimals = &text[point + 1..];
-    if !is_numeral(decimals) {
-        return Err(Misread::NotANumber);
-    }
-    in_units(whole, decimals, places)
 }
 
-// Where the first point stands, or the length where there is none.
-fn point_in(text: &[u8]) -> usize
-    ensures place { result ≡ point text.now }
-    ensures within { result ≤ length text.now }
+// Where the first point stands.
+fn point_in(text: &[u8]) -> Option<usize>
+    ensures { result ≡ position (λ c. c == 46) text.now }
 {
-    for (i, b) in text.iter().enumerate() {
-        if *b == b'.' {
-            return i;
-        }
-    }
-    text.len()
+    text.iter().position(|b| *b == b'.')
 }
 
 // Whether the text is one digit or more.
 pub(crate) fn is_numeral(text: &[u8]) -> bool
-    ensures { result ≡ numeral text.now }
+    ensures value { result ≡ numeral text.now }
+    ensures digits { OnTrue result (All IsAsciiDigit text.now) }
 {
-    for b in text {
-        if !b.is_ascii_digit() {
-            return false;
-        }
-    }
-    !text.is_empty()
+    !text.is_empty() && text.iter().all(u8::is_ascii_digit)
 }
 
 // The number that some digits write, where it fits.
 pub(crate) fn number_in(text: &[u8]) -> Option<u64>
-    requires { all_ascii_digits text.now ≡ true }
+    requires { All IsAsciiDigit text.now }
     ensures { result ≡ fitted (number 0 text.now) }
 {
-    let mut n: u64 = 0;
-    for b in text {
-        n = n.checked_mul(10)?.checked_add(u64::from(*b - b'0'))?;
-    }
-    Some(n)
+    text.iter().try_fold(
+        0u64,
+        |n, b| n.checked_mul(10)?.checked_add(u64::from(*b - b'0')),
+    )
 }
 
 // The number with these digits before and after its point, in units of 10^-places.
 fn in_units(whole: &[u8], decimals: &[u8], places: u8) -> Result<u64, Misread>
-    requires whole { all_ascii_digits whole.now ≡ true }
-    requires decimals { all_ascii_digits decimals.now ≡ true }
+    requires whole { All IsAsciiDigit whole.now }
+    requires decimals { All IsAsciiDigit decimals.now }
     ensures { result ≡ units whole.now decimals.now places }
 {
     if decimals.len() > usize::from(places) {
@@ -97,8 +82,8 @@ fn in_units(whole: &[u8], decimals: &[u8], places: u8) -> Result<u64, Misread>
 
 // The same where the places are few and no decimals are too many.
 fn scaled(whole: &[u8], decimals: &[u8], places: u8) -> Option<u64>
-    requires whole { all_ascii_digits whole.now ≡ true }
-    requires decimals { all_ascii_digits decimals.now ≡ true }
+    requires whole { All IsAsciiDigit whole.now }
+    requires decimals { All IsAsciiDigit decimals.now }
     requires within { length decimals.now ≤ places }
     requires few { places ≤ 18 }
     ensures { result ≡ fitted (worth whole.now decimals.now places) }
@@ -118,17 +103,15 @@ pub struct Decimal {
 }
 
 impl Decimal {
-    // The same number, without the zeros that its decimals end in.
-    pub fn trimmed(self) -> Decimal
+    // The same number, without the zeros that its decimals end in. A `while`: their number is not known before.
+    pub fn trimmed(mut self) -> Decimal
         ensures { result ≡ trim self.value self.places }
     {
-        let mut value = self.value;
-        let mut places = self.places;
-        while places > 0 && value % 10 == 0 {
-            value /= 10;
-            places -= 1;
+        while self.places > 0 && self.value % 10 == 0 {
+            self.value /= 10;
+            self.places -= 1;
         }
-        Decimal { value, places }
+        self
     }
 
     // The whole part, and the decimals as a number.

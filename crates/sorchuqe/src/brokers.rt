@@ -1,9 +1,10 @@
 //! The second part of the demo: two brokers in a book of futures, run from its list of calls.
+use crate::amounts::Equity;
 use crate::fault::Fault;
 use book::book::Book;
 use book::call::Call;
 use ledger::{refusals, run};
-use notation::{Date, Decimal};
+use notation::Date;
 use std::alloc::Global;
 use std::fmt::Write;
 use terms::code::{Code, Name, Prefix};
@@ -18,18 +19,16 @@ const CODE: Code = Code {
     letter: b'F',
 };
 
-const SEPTEMBER: Name = Name {
-    code: CODE,
-    expiry: 8_299,
-    right: 0,
-    strike: 0,
-};
-
 const DECEMBER: Name = Name {
     code: CODE,
     expiry: 8_390,
     right: 0,
     strike: 0,
+};
+
+const SEPTEMBER: Name = Name {
+    expiry: 8_299,
+    ..DECEMBER
 };
 
 /// Opened and listed, traded, marked on two days.
@@ -78,17 +77,33 @@ const CALLS: [Call; 7] = [
 
 /// A step of the story: its day, what happens, and how many calls have then been made.
 #[derive(Clone, Copy)]
-struct Step(Day, &'static str, usize);
+struct Step {
+    day: Day,
+    what: &'static str,
+    calls: usize,
+}
 
 const STEPS: [Step; 4] = [
-    Step(
-        8_231,
-        "Brokers 101 and 102 open accounts. CNF is listed for September, at 24.90, and for\n            December, at 25.00; one lot is 2,000 shares.",
-        4,
-    ),
-    Step(8_234, "101 buys 3 lots of December from 102 at 25.20.", 5),
-    Step(8_234, "December is marked at 25.50.", 6),
-    Step(8_235, "December is marked at 24.80.", 7),
+    Step {
+        day: 8_231,
+        what: "Brokers 101 and 102 open accounts. CNF is listed for September, at 24.90, and for\n            December, at 25.00; one lot is 2,000 shares.",
+        calls: 4,
+    },
+    Step {
+        day: 8_234,
+        what: "101 buys 3 lots of December from 102 at 25.20.",
+        calls: 5,
+    },
+    Step {
+        day: 8_234,
+        what: "December is marked at 25.50.",
+        calls: 6,
+    },
+    Step {
+        day: 8_235,
+        what: "December is marked at 24.80.",
+        calls: 7,
+    },
 ];
 
 const OPENING: &str = "
@@ -104,28 +119,23 @@ call: the program's book comes with the proof of it.
 /// The story of the two brokers.
 pub(crate) fn story(heap: Global, out: &mut String) -> Result<(), Fault> {
     out.push_str(OPENING)?;
-    for step in &STEPS {
-        tell(heap, out, *step)?;
+    for step in STEPS {
+        tell(heap, out, step)?;
     }
     out.push_str(CLOSING)?;
     Ok(())
 }
 
 fn tell(heap: Global, out: &mut String, step: Step) -> Result<(), Fault> {
-    let Step(day, what, calls) = step;
+    let Step { day, what, calls } = step;
     let date = Date::from_day(day);
     writeln!(out, "{date}  {what}\n")?;
-    let made = if calls <= CALLS.len() {
-        &CALLS[0..calls]
-    } else {
-        &CALLS[0..0]
-    };
-    for refusal in refusals::<Futures>(heap, made)?.iter() {
-        if let Some(refusal) = refusal {
-            return Err(Fault::Refused(*refusal));
-        }
+    let made = CALLS.get(..calls).unwrap_or(&[]);
+    let answers = refusals::<Futures>(heap, made)?;
+    match answers.iter().find_map(|answer| *answer) {
+        Some(refusal) => Err(Fault::Refused(refusal)),
+        None => show(heap, out, &run::<Futures>(made)),
     }
-    show(heap, out, &run::<Futures>(made))
 }
 
 // The two accounts and their sums.
@@ -136,30 +146,13 @@ fn show(heap: Global, out: &mut String, book: &Book<Futures>) -> Result<(), Faul
     for account in [101, 102] {
         let held = book.lots(account, DECEMBER)?;
         let worth = book.equity(account)?;
-        row(heap, out, account, held, worth)?;
+        // A text, since a column pads what is one.
+        let money = Equity(worth).to_string(heap)?;
+        writeln!(out, "    {account:<8}  {held:>7}  {money:>11}")?;
         lots = lots.saturating_add(held);
         equity = equity.saturating_add(worth);
     }
-    let money = signed(heap, equity)?;
+    let money = Equity(equity).to_string(heap)?;
     writeln!(out, "    together  {lots:>7}  {money:>11}\n")?;
     Ok(())
-}
-
-fn row(heap: Global, out: &mut String, account: u32, lots: i32, equity: i64) -> Result<(), Fault> {
-    let money = signed(heap, equity)?;
-    writeln!(out, "    {account:<8}  {lots:>7}  {money:>11}")?;
-    Ok(())
-}
-
-// Micros in dollars and cents, with a minus where below zero.
-fn signed(heap: Global, micros: i64) -> Result<String, Fault> {
-    let dollars = Decimal {
-        value: micros.unsigned_abs() / 10_000,
-        places: 2,
-    };
-    if micros < 0 {
-        Ok(format!(in heap; "-{dollars}")?)
-    } else {
-        Ok(format!(in heap; "{dollars}")?)
-    }
 }

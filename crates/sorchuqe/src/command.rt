@@ -1,34 +1,25 @@
 //! Which command is meant, and its answer.
-use crate::fault::Fault;
+use crate::fault::{Fault, usage};
 use crate::notice::notice;
-use crate::request::Request;
 use crate::{demo, help, request};
 use std::alloc::Global;
 use terms::figures::worked_figures;
 
+const HELP: &str = "--help";
+
 /// What the program prints for the words of its command line.
 pub(crate) fn answer(heap: Global, words: &[&str]) -> Result<String, Fault> {
-    if words.is_empty() {
-        return usage(heap, "a command is missing");
+    match words {
+        [] => usage(heap, HELP, "a command is missing"),
+        ["--help" | "-h" | "help", ..] => Ok(String::from_str(heap, help::PROGRAM)?),
+        ["--version", ..] => version(heap),
+        ["adjust", rest @ ..] if asks_for_help(rest) => Ok(String::from_str(heap, help::ADJUST)?),
+        ["adjust", rest @ ..] => notice(heap, &request::read(heap, rest)?),
+        ["demo"] => demo::story(heap),
+        ["demo", rest @ ..] if asks_for_help(rest) => Ok(String::from_str(heap, help::DEMO)?),
+        ["demo", ..] => usage(heap, HELP, "demo takes no arguments"),
+        [other, ..] => usage(heap, HELP, format_args!("there is no command '{other}'")),
     }
-    let rest = &words[1..];
-    match words[0] {
-        "--help" | "-h" | "help" => Ok(String::from_str(heap, help::PROGRAM)?),
-        "--version" => version(heap),
-        "adjust" if asks_for_help(rest) => Ok(String::from_str(heap, help::ADJUST)?),
-        "adjust" => notice(heap, &request::read(heap, rest)?),
-        "demo" if asks_for_help(rest) => Ok(String::from_str(heap, help::DEMO)?),
-        "demo" if rest.is_empty() => demo::story(heap),
-        "demo" => usage(heap, "demo takes no arguments"),
-        other => usage(
-            heap,
-            format!(in heap; "there is no command '{other}'")?.as_str(),
-        ),
-    }
-}
-
-fn usage(heap: Global, text: &str) -> Result<String, Fault> {
-    Err(Fault::Usage(format!(in heap; "{text}\nTry 'sorchuqe --help'.")?))
 }
 
 fn version(heap: Global) -> Result<String, Fault> {
@@ -37,10 +28,5 @@ fn version(heap: Global) -> Result<String, Fault> {
 }
 
 fn asks_for_help(words: &[&str]) -> bool {
-    for word in words {
-        if *word == "--help" || *word == "-h" {
-            return true;
-        }
-    }
-    false
+    words.iter().any(|word| *word == "--help" || *word == "-h")
 }

@@ -1,5 +1,6 @@
-//! Why a command has no answer.
-use std::alloc::{AllocError, AllocFailed};
+//! Why a command has no answer. `Display` and `From` are by hand, so that the program rests on no other crate
+//! for them.
+use std::alloc::{AllocError, Global};
 use std::{fmt, io};
 use terms::refusal::Refusal;
 
@@ -14,22 +15,42 @@ pub enum Fault {
     Output(io::Error),
 }
 
+/// The words say nothing: why, and which words ask for help.
+pub(crate) fn usage<T>(
+    heap: Global,
+    help: &str,
+    why: impl fmt::Display + Drop,
+) -> Result<T, Fault> {
+    Err(Fault::Usage(format!(in heap; "{why}\nTry 'sorchuqe {help}'.")?))
+}
+
 impl fmt::Display for Fault {
     fn fmt<W: fmt::Write>(&self, f: &mut fmt::Formatter<W>) -> fmt::Result {
         match self {
             Fault::Usage(text) => write!(f, "{text}"),
             Fault::Amount(text) => {
-                let refusal = Refusal::OutsideUnits;
-                let number = refusal.number();
-                write!(f, "refused ({number}): {refusal}: {text}")
+                let refused = Refused(Refusal::OutsideUnits);
+                write!(f, "{refused}: {text}")
             }
             Fault::Refused(refusal) => {
-                let number = refusal.number();
-                write!(f, "refused ({number}): {refusal}")
+                let refused = Refused(*refusal);
+                write!(f, "{refused}")
             }
             Fault::Memory => f.write_str("out of memory"),
             Fault::Output(error) => write!(f, "{error}"),
         }
+    }
+}
+
+// A refusal with its number.
+#[derive(Clone, Copy)]
+struct Refused(Refusal);
+
+impl fmt::Display for Refused {
+    fn fmt<W: fmt::Write>(&self, f: &mut fmt::Formatter<W>) -> fmt::Result {
+        let Refused(refusal) = *self;
+        let number = refusal.number();
+        write!(f, "refused ({number}): {refusal}")
     }
 }
 
@@ -41,18 +62,6 @@ impl From<Refusal> for Fault {
 
 impl From<AllocError> for Fault {
     fn from(_error: AllocError) -> Fault {
-        Fault::Memory
-    }
-}
-
-impl<T: Drop> From<AllocFailed<T>> for Fault {
-    fn from(_refused: AllocFailed<T>) -> Fault {
-        Fault::Memory
-    }
-}
-
-impl From<fmt::Error> for Fault {
-    fn from(_error: fmt::Error) -> Fault {
         Fault::Memory
     }
 }

@@ -1,6 +1,7 @@
 //! The program: reads a command line, asks the libraries, prints the answer.
 #![tactic(auto)]
 
+mod amounts;
 mod brokers;
 mod command;
 mod demo;
@@ -28,15 +29,8 @@ fn main(rt: HostRuntime) -> ExitCode {
 }
 
 fn run(rt: &HostRuntime) -> Result<(), Fault> {
-    let mut given = Vec::new(rt.alloc());
-    for word in env::args(rt)?.skip(1) {
-        given.push(word)?;
-    }
-    let mut words = Vec::new(rt.alloc());
-    for word in given.iter() {
-        words.push(word.as_str())?;
-    }
-    let text = answer(rt.alloc(), words.as_slice())?;
-    rt.print(text)?;
+    let given: Vec<String> = env::args(rt)?.skip(1).collect(rt.alloc())?;
+    let words: Vec<&str> = given.iter().map(String::as_str).collect(rt.alloc())?;
+    rt.print(answer(rt.alloc(), &words)?)?;
     Ok(())
 }

@@ -1,12 +1,12 @@
 //! What the exchange's notice would say of a line.
+use crate::amounts::{ClaimAfter, CodeText, Entry, LotCash, price, shares};
 use crate::fault::Fault;
 use crate::request::{Book, Request};
-use notation::{Date, Decimal};
 use std::alloc::Global;
+use std::fmt;
 use std::fmt::Write;
 use terms::adjust::Adjusted;
-use terms::claim::Claim;
-use terms::code::{Name, Series};
+use terms::code::Name;
 use terms::event::Event;
 use terms::family::Family;
 use terms::futures::Futures;
@@ -57,20 +57,17 @@ fn decided<F: Family>(request: &Request, right: u8, strike: Cents) -> Result<Out
             prices,
         }),
         (Err(refusal), Ok(_)) | (Ok(_), Err(refusal)) => Err(refusal),
-        (Err(a), Err(b)) => Err(smaller(a, b)),
+        // Where two refusals fit, the smaller number is given.
+        (Err(a), Err(b)) => Err(a.min(b)),
     }
 }
 
 fn referred(price: Option<Cents>, event: &Event) -> Result<Option<(Cents, Cents)>, Refusal> {
-    match price {
-        Some(price) => Ok(Some((price, reference_price(price, event.cash, event.ratio)?))),
-        None => Ok(None),
-    }
-}
-
-// Where two refusals fit, the smaller number is given.
-fn smaller(a: Refusal, b: Refusal) -> Refusal {
-    if a.number() < b.number() { a } else { b }
+    let Some(price) = price else {
+        return Ok(None);
+    };
+    let reference = reference_price(price, event.cash, event.ratio)?;
+    Ok(Some((price, reference)))
 }
 
 fn written<F: Family>(heap: Global, request: &Request, outcome: &Outcome) -> Result<String, Fault> {
@@ -79,116 +76,45 @@ fn written<F: Family>(heap: Global, request: &Request, outcome: &Outcome) -> Res
     row(
         &mut out,
         "code",
-        code_text::<F>(heap, &before.series)?,
-        code_text::<F>(heap, &after.series)?,
+        CodeText::of::<F>(&before.series),
+        CodeText::of::<F>(&after.series),
     )?;
     row(
         &mut out,
         "shares in a lot",
-        share_text(heap, before.units)?,
-        share_text(heap, after.units)?,
+        shares(before.units),
+        shares(after.units),
     )?;
     row(
         &mut out,
         "cash in the lot",
-        dollar_text(heap, before.cash)?,
-        dollar_text(heap, after.cash)?,
+        LotCash(before.cash),
+        LotCash(after.cash),
     )?;
-    let entry = entry_text(heap, outcome.after.booked)?;
+    let entry = Entry(outcome.after.booked);
     writeln!(out, "entry             {entry}")?;
-    let claim = claim_text(heap, request, &after.claim)?;
+    let claim = ClaimAfter {
+        event: request.event,
+        claim: after.claim,
+    };
     writeln!(out, "claim             {claim}")?;
-    if let Some((price, reference)) = outcome.prices {
-        row(
-            &mut out,
-            "reference price",
-            price_text(heap, price)?,
-            price_text(heap, reference)?,
-        )?;
+    if let Some((old, reference)) = outcome.prices {
+        row(&mut out, "reference price", price(old), price(reference))?;
     }
     Ok(out)
 }
 
 // What a part of the contract was, and what it becomes.
-fn row(out: &mut String, label: &str, before: String, after: String) -> Result<(), Fault> {
-    if before.as_str() == after.as_str() {
+fn row<T: fmt::Display + PartialEq + Drop>(
+    out: &mut String,
+    label: &str,
+    before: T,
+    after: T,
+) -> Result<(), Fault> {
+    if before == after {
         writeln!(out, "{label:<16}  {before}, as before")?;
     } else {
         writeln!(out, "{label:<16}  {before} becomes {after}")?;
     }
     Ok(())
-}
-
-/// A code, as CNA.
-pub(crate) fn code_text<F: Family>(heap: Global, series: &Series) -> Result<String, Fault> {
-    let prefix = series.prefix;
-    let letter = F::letter(series.level).unwrap_or('?');
-    Ok(format!(in heap; "{prefix}{letter}")?)
-}
-
-/// Shares, as 2,073.9967.
-pub(crate) fn share_text(heap: Global, units: u32) -> Result<String, Fault> {
-    let shares = Decimal {
-        value: units as u64,
-        places: 4,
-    }
-    .trimmed();
-    Ok(format!(in heap; "{shares}")?)
-}
-
-/// A price, as 38.40.
-pub(crate) fn price_text(heap: Global, cents: u32) -> Result<String, Fault> {
-    let price = Decimal {
-        value: cents as u64,
-        places: 2,
-    };
-    Ok(format!(in heap; "{price}")?)
-}
-
-/// Dollars, as 3,200 dollars.
-pub(crate) fn dollar_text(heap: Global, dollars: u32) -> Result<String, Fault> {
-    if dollars == 0 {
-        return Ok(String::from_str(heap, "none")?);
-    }
-    let dollars = Decimal {
-        value: dollars as u64,
-        places: 0,
-    };
-    Ok(format!(in heap; "{dollars} dollars")?)
-}
-
-fn entry_text(heap: Global, booked: u32) -> Result<String, Fault> {
-    if booked == 0 {
-        return Ok(String::from_str(heap, "none")?);
-    }
-    let dollars = Decimal {
-        value: booked as u64,
-        places: 0,
-    };
-    Ok(format!(in heap;
-        "+{dollars} dollars to each lot bought, -{dollars} dollars to each lot sold"
-    )?)
-}
-
-// The claim that the event opens; one that it leaves alone is told by its kind.
-fn claim_text(heap: Global, request: &Request, claim: &Claim) -> Result<String, Fault> {
-    match *claim {
-        Claim::Absent => Ok(String::from_str(heap, "none")?),
-        Claim::Fixed { dollars: _ } => Ok(String::from_str(heap, "fixed, as before")?),
-        Claim::Open {
-            units: _,
-            price: _,
-            deadline: _,
-        } if request.event.rights.rate == 0 => { Ok(String::from_str(heap, "open, as before")?) }
-        Claim::Open {
-            units,
-            price,
-            deadline,
-        } => {
-            let shares = share_text(heap, units)?;
-            let price = price_text(heap, price)?;
-            let date = Date::from_day(deadline);
-            Ok(format!(in heap; "on {shares} shares at {price}, payable until {date}")?)
-        }
-    }
 }

@@ -1,15 +1,11 @@
-use Rattle.notation.proofs.Digits.{digits_more}
 use Rattle.notation.proofs.numbers.is_numeral.Goals as goal
-use Rattle.std.proofs.lemmas.List.{at_drop_all}
+use Rattle.std.proofs.Common.{rules, arith}
+use Rattle.std.specs.Char.{is_ascii_digit}
 use Rattle.std.proofs.lemmas.Bool.Decides.{nat_tests}
-use Rattle.std.specs.Str.{all_ascii_digits}
-use Rattle.std.proofs.Common.{arith}
+use Rattle.std.proofs.lemmas.Iterator.Search.{all_from_yields_List}
+use Rattle.std.proofs.lemmas.Iterator.{YieldsList-from_slice}
 
-pub returns-then-not-is_ascii_digit : goal.returns-then-not-is_ascii_digit
-returns-then-not-is_ascii_digit c = let e = digits_more c.args.text.now c.loop-b.b-index (omega arith) in grind (arith, nat_tests)
-
-pub loop-b-preserved : goal.loop-b-preserved
-loop-b-preserved c = let e = digits_more c.args.text.now c.loop-b.b-index (omega arith) in grind (arith, nat_tests)
-
-pub returns : goal.returns
-returns c = let e = at_drop_all all_ascii_digits c.args.text.now c.loop-b.b-index (omega arith) in grind (arith, nat_tests)
+pub returns-then-not-is_empty-clause-value : goal.returns-then-not-is_empty-clause-value
+returns-then-not-is_empty-clause-value c =
+    let all = all_from_yields_List is_ascii_digit _ _ c.all.result c.all.ensures.ran (YieldsList-from_slice c.args.text.now c.iter.ensures.rest) (λ x b q k. search rules) in
+    grind (arith, nat_tests)

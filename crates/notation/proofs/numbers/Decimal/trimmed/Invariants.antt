@@ -2,8 +2,8 @@ use Rattle.notation.proofs.numbers.Decimal.trimmed.Given as goal
 use Rattle.notation.specs.Decimal.{trim}
 use Rattle.std.proofs.Common.{◌≡◌}
 
-abbrev pub invariant-loop-places : goal.invariant-loop-places
-invariant-loop-places l = trim l.value l.places ≡ trim l.initial.value l.initial.places
+abbrev pub invariant-loop-self : goal.invariant-loop-self
+invariant-loop-self l = trim l.self.value l.self.places ≡ trim l.initial.self.value l.initial.self.places
 
-abbrev pub decreases-loop-places : goal.decreases-loop-places
-decreases-loop-places l = l.places
+abbrev pub decreases-loop-self : goal.decreases-loop-self
+decreases-loop-self l = l.self.places
