@@ -1,4 +1,4 @@
-// Dates of the Gregorian calendar, and the days counted from 2000-01-01, which is day 0.
+//! Dates of the Gregorian calendar, and the days counted from 2000-01-01, which is day 0.
 ghost use Rattle.std.specs.Prelude.{◌≡◌, ◌+◌, ◌^◌, ◌<◌, ◌≤◌, length, IfSome, if◌then◌else◌, Some, None};
 ghost use Rattle.notation.specs.Calendar.{leap, year_length, month_length, days_before_year, days_before_month, real, to_day, dashed, read_date};
 ghost use Rattle.notation.specs.Decimal.{numeral, number};
@@ -14,7 +14,7 @@ pub struct Date {
 }
 
 impl Date {
-    // The date of a day, the only one that has it. It is no `From`, which would not say what the u16 counts.
+    /// The date of a day, the only one that has it. It is no `From`, which would not say what the u16 counts.
     pub fn from_day(day: u16) -> Date
         ensures named { to_day result ≡ Some day }
         ensures only { (d : Date) → to_day d ≡ Some day → d ≡ result }
@@ -28,7 +28,7 @@ impl Date {
         }
     }
 
-    // The day of a date, where there is such a date and its day fits.
+    /// The day of a date, where there is such a date and its day fits.
     pub fn to_day(&self) -> Option<u16>
         ensures { result ≡ to_day self.now }
     {
@@ -57,7 +57,7 @@ impl fmt::Display for Date {
     }
 }
 
-// Reads a date such as 2022-06-21, and gives its day. It takes bytes, since a `&str` asks more of a caller.
+/// Reads a date such as 2022-06-21, and gives its day. It takes bytes, since a `&str` asks more of a caller.
 pub fn read_date(text: &[u8]) -> Option<u16>
     ensures { result ≡ read_date text.now }
 {

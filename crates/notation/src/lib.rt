@@ -1,4 +1,4 @@
-// How the numbers and dates of a contract book are read from text and written as text.
+//! How the numbers and dates of a contract book are read from text and written as text.
 #![tactic(auto)]
 
 mod dates;

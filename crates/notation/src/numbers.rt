@@ -1,4 +1,4 @@
-// Decimal numbers: read exactly in units of a power of ten, and written again.
+//! Decimal numbers: read exactly in units of a power of ten, and written again.
 ghost use Rattle.std.specs.Prelude.{◌≡◌, ◌/◌, ◌%◌, ◌^◌, ◌≤◌, ◌==◌, length, position, All};
 ghost use Rattle.notation.specs.Decimal.{number, numeral, point, worth, fitted, units, read_decimal, trim};
 ghost use Rattle.std.specs.Bool.{OnTrue};
@@ -6,7 +6,7 @@ ghost use Rattle.std.specs.Char.{IsAsciiDigit};
 
 use std::fmt;
 
-// Why a text is not read as a number.
+/// Why a text is not read as a number.
 #[derive(Debug, Clone, Copy, PartialEq, Eq)]
 pub enum Misread {
     NotANumber,
@@ -25,8 +25,8 @@ impl fmt::Display for Misread {
     }
 }
 
-// Reads a number such as 78 or 0.05, exactly, in units of 10^-places. It takes bytes, since a `&str` asks
-// more of a caller.
+/// Reads a number such as 78 or 0.05, exactly, in units of 10^-places. It takes bytes, since a `&str` asks
+/// more of a caller.
 pub fn read_decimal(text: &[u8], places: u8) -> Result<u64, Misread>
     ensures { result ≡ read_decimal text.now places }
 {
@@ -95,7 +95,7 @@ fn scaled(whole: &[u8], decimals: &[u8], places: u8) -> Option<u64>
     whole.checked_add(decimals)
 }
 
-// A number of units of 10^-places, written as 3,200.00.
+/// A number of units of 10^-places, written as 3,200.00.
 #[derive(Debug, Clone, Copy, PartialEq, Eq)]
 pub struct Decimal {
     pub value: u64,
@@ -103,7 +103,7 @@ pub struct Decimal {
 }
 
 impl Decimal {
-    // The same number, without the zeros that its decimals end in. A `while`: their number is not known before.
+    /// The same number, without the zeros that its decimals end in. A `while`: their number is not known before.
     pub fn trimmed(mut self) -> Decimal
         ensures { result ≡ trim self.value self.places }
     {

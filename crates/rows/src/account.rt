@@ -8,7 +8,8 @@ use crate::gains::Gain;
 use crate::table::Account;
 use terms::units::{MOST_EQUITY, MOST_LOTS, Micros};
 
-// The equity after a gain of `lots` times `to - from`.
+/// The equity after a gain of `lots` times `to - from`. By numbers and no `Gain`: the dollars of an event move an
+/// equity too, and are of no one place.
 pub fn moved(equity: i64, lots: i32, from: Micros, to: Micros) -> i64
     requires held { unsigned_abs equity ≤ 4000000000000000000 }
     requires few { unsigned_abs lots ≤ 4000 }
