@@ -1,6 +1,6 @@
 //! What an event finds in the places of a book.
-//! That all lines are within their limits is a clause here and in the modules beside: the book's type has
-//! the fact, and a type for slices of places would be made for each call alone.
+//! That lines and accounts are within their limits is a clause here and in the modules beside, and no ghost
+//! field of theirs: an event makes a line and a trade two accounts, and only then are they judged.
 ghost use Rattle.std.specs.Prelude.{◌≡◌, true, not, ◌&&◌};
 ghost use Rattle.lookup.specs.Seek.{any_of};
 ghost use Rattle.sweep.specs.Sweep.{all_of, how_many};

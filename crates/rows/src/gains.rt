@@ -1,4 +1,5 @@
-//! A gain of each lot in a place, and what it makes of accounts.
+//! A gain of each lot in a place, and what it makes of accounts. That an account can gain is a clause, and no
+//! ghost field of `Account`: a trade makes two accounts and only then judges them.
 ghost use Rattle.std.specs.Prelude.{◌≡◌, ◌<◌, ◌≤◌, true, map, ◌+ℤ◌, ◌*ℤ◌};
 ghost use Rattle.lookup.specs.Seek.{any_of};
 ghost use Rattle.sweep.specs.Sweep.{all_of};
