@@ -1,5 +1,6 @@
 pub mod Rows
 pub mod Fits
+pub mod Held
 pub mod Names
 pub mod Opening
 pub mod Listing

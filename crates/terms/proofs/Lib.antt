@@ -2,3 +2,4 @@ pub mod Refusals
 pub mod Bounds
 pub mod WorthKept
 pub mod Within
+pub mod Whole

@@ -14,7 +14,7 @@ use crate::refusal::Refusal;
 use crate::terms::Terms;
 use crate::units;
 use crate::units::{
-    Billionths, CashPerShare, Day, Dollars, LARGEST_LOT_CASH, LAST_LEVEL, ShareUnits,
+    Billionths, CashPerShare, Day, Dollars, LARGEST_LOT_CASH, LAST_LEVEL, ONE, ShareUnits,
 };
 
 /// A line after an event, and what each bought lot is credited with and each sold lot charged.
@@ -36,6 +36,7 @@ impl Terms {
         if event.has_bad_prefix() {
             return Err(Refusal::Malformed);
         }
+        // Not by `judge`: the line's own numbers are judged with the event's, before 4.
         if !units::is_day(day) || event.is_outside_units() || !self.is_within_units() {
             return Err(Refusal::OutsideUnits);
         }
@@ -99,11 +100,7 @@ impl Terms {
         ensures { result ≡ next_series F.Family.answers event.now self.now }
     {
         let old = self.series;
-        let level = if F::moves(event) {
-            old.level + 1
-        } else {
-            old.level
-        };
+        let level = old.level + u8::from(F::moves(event));
         let prefix = if event.successor.is_absent() {
             old.prefix
         } else {
@@ -153,12 +150,13 @@ impl Terms {
     }
 }
 
-// Share units times a ratio or a rate, the fraction dropped.
+// Share units times a ratio or a rate, the fraction dropped. (By `as`, here and below: it fits, as the check
+// proves, and `try_from` would answer an error that never comes.)
 fn scaled(units: ShareUnits, billionths: Billionths) -> ShareUnits
     requires { (units ≤ 400000000) × (billionths ≤ 10000000000) }
     ensures { result ≡ units * billionths / 1000000000 }
 {
-    (u64::from(units) * billionths / 1_000_000_000) as ShareUnits
+    (u64::from(units) * billionths / ONE) as ShareUnits
 }
 
 // The dollars paid on so many share units, the fraction dropped.

@@ -2,7 +2,7 @@
 ghost use Rattle.std.specs.Prelude.{◌≡◌};
 ghost use Rattle.terms.specs.Claims.{claim_dollars, subscription_dollars, awaits, unfixed};
 
-use crate::units::{Cents, Day, Dollars, ShareUnits};
+use crate::units::{Cents, DOLLAR, Day, Dollars, ShareUnits};
 
 #[derive(Clone, Copy, PartialEq, Eq, Debug)]
 pub enum Claim {
@@ -49,5 +49,5 @@ impl Claim {
 fn subscribed(units: ShareUnits, price: Cents, close: Cents) -> u64
     ensures { result ≡ subscription_dollars close units price }
 {
-    u64::from(close.saturating_sub(price)) * u64::from(units) / 1_000_000
+    u64::from(close.saturating_sub(price)) * u64::from(units) / DOLLAR
 }

@@ -40,7 +40,8 @@ pub struct Series {
 }
 
 impl Prefix {
-    /// No prefix, as where an event names none.
+    /// No prefix, as where an event names none. (No `Option`: one letter may be given without the other,
+    /// which is refused.)
     pub const NONE: Prefix = Prefix {
         first: 0,
         second: 0,

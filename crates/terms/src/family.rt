@@ -1,5 +1,5 @@
 //! A product family: the answers by which alone the book knows it.
-ghost use Rattle.std.specs.Prelude.{◌≡◌, ℕ, true, Some};
+ghost use Rattle.std.specs.Prelude.{◌≡◌, true, Some};
 ghost use Rattle.terms.specs.Family.{Answers, Law, priced};
 ghost use Rattle.terms.specs.Units.{is_claim};
 
@@ -11,14 +11,21 @@ use crate::units::{Cents, Dollars, Micros, ShareUnits};
 pub trait Family {
     ghost answers: { Answers };
 
-    ghost LARGEST_LOT: { ℕ };
-
     const LARGEST_LOT: ShareUnits;
-
-    ghost STANDARD: { ℕ };
 
     const STANDARD: char;
 
+    /// The largest lot. (Each family's own function, as the letter of level 0: one for all would rest on a
+    /// law of the constants, and ask more of a family.)
+    fn lot_limit() -> ShareUnits
+        ensures { result ≡ answers.largest };
+
+    /// The letter of level 0.
+    fn standard_letter() -> char
+        ensures { Some result ≡ answers.letter 0 };
+
+    // (Letter and level by cases in each family, as a clerk reads them: by a table, that one undoes the
+    // other would be a fact of a search.)
     fn letter(level: u8) -> Option<char>
         ensures { result ≡ answers.letter level };
 
@@ -53,25 +60,6 @@ pub trait Family {
         requires within { priced answers lot.now price ≡ true }
         requires claimed { is_claim dollars ≡ true }
         ensures { result ≡ answers.final lot.now price dollars };
-
-    // Each constant is what the answers say.
-    ghost largest_is: { LARGEST_LOT ≡ answers.largest };
-
-    ghost standard_is: { Some STANDARD ≡ answers.letter 0 };
-
-    /// The largest lot.
-    final fn lot_limit() -> ShareUnits
-        ensures { result ≡ answers.largest }
-    {
-        Self::LARGEST_LOT
-    }
-
-    /// The letter of level 0.
-    final fn standard_letter() -> char
-        ensures { Some result ≡ answers.letter 0 }
-    {
-        Self::STANDARD
-    }
 
     // What each family must show, and all that the book may rest on.
     ghost keeps: { Law answers };

@@ -1,5 +1,5 @@
 //! Stock futures.
-ghost use Rattle.std.specs.Prelude.{◌≡◌, refl};
+ghost use Rattle.std.specs.Prelude.{◌≡◌};
 ghost use Rattle.terms.specs.Futures.{futures, futures_value};
 ghost use Rattle.terms.specs.FamilyLaws.{futures_law};
 
@@ -7,7 +7,7 @@ use crate::event::Event;
 use crate::family::Family;
 use crate::lot::Lot;
 use crate::right::Right;
-use crate::units::{Cents, Dollars, Micros, ShareUnits};
+use crate::units::{Cents, DOLLAR, Dollars, Micros, ShareUnits};
 
 #[derive(Clone, Copy)]
 pub struct Futures;
@@ -15,19 +15,19 @@ pub struct Futures;
 impl Family for Futures {
     ghost answers = { futures };
 
-    ghost LARGEST_LOT = { futures.largest };
-
     const LARGEST_LOT: ShareUnits = 400_000_000;
-
-    ghost STANDARD = { 70 };
 
     const STANDARD: char = 'F';
 
-    ghost largest_is = { refl };
-
-    ghost standard_is = { refl };
-
     ghost keeps = { futures_law };
+
+    fn lot_limit() -> ShareUnits {
+        Self::LARGEST_LOT
+    }
+
+    fn standard_letter() -> char {
+        Self::STANDARD
+    }
 
     fn letter(level: u8) -> Option<char> {
         match level {
@@ -85,7 +85,7 @@ impl Family for Futures {
     }
 
     fn final_value(lot: &Lot, price: Cents, dollars: Dollars) -> Micros {
-        value(lot, price) + u64::from(dollars) * 1_000_000
+        value(lot, price) + u64::from(dollars) * DOLLAR
     }
 }
 

@@ -10,8 +10,8 @@ use crate::right::Right;
 use crate::units;
 
 impl Code {
-    /// The level that the letter stands for, none where the code is malformed. (By an `if`, as a call
-    /// of `and_then(F::level)` gets no proof.)
+    /// The level that the letter stands for, none where the code is malformed. (By an `if`:
+    /// `then` would give an `Option` of an `Option`.)
     pub fn level<F: Family>(&self) -> Option<u8>
         ensures { result ≡ code_level F.Family.answers self.now }
     {

@@ -1,5 +1,4 @@
 //! Stock options.
-ghost use Rattle.std.specs.Prelude.{refl};
 ghost use Rattle.terms.specs.Options.{options};
 ghost use Rattle.terms.specs.FamilyLaws.{options_law};
 
@@ -8,7 +7,7 @@ use crate::family::Family;
 use crate::lot::Lot;
 use crate::right::Right;
 use crate::units;
-use crate::units::{Cents, Dollars, Micros, ShareUnits};
+use crate::units::{Cents, DOLLAR, Dollars, Micros, ShareUnits};
 
 #[derive(Clone, Copy)]
 pub struct Options;
@@ -16,19 +15,19 @@ pub struct Options;
 impl Family for Options {
     ghost answers = { options };
 
-    ghost LARGEST_LOT = { options.largest };
-
     const LARGEST_LOT: ShareUnits = 200_000_000;
-
-    ghost STANDARD = { 79 };
 
     const STANDARD: char = 'O';
 
-    ghost largest_is = { refl };
-
-    ghost standard_is = { refl };
-
     ghost keeps = { options_law };
+
+    fn lot_limit() -> ShareUnits {
+        Self::LARGEST_LOT
+    }
+
+    fn standard_letter() -> char {
+        Self::STANDARD
+    }
 
     fn letter(level: u8) -> Option<char> {
         match level {
@@ -87,7 +86,7 @@ impl Family for Options {
 
     fn final_value(lot: &Lot, price: Cents, dollars: Dollars) -> Micros {
         let dollars = u64::from(lot.cash) + u64::from(dollars);
-        let delivered = u64::from(price) * u64::from(lot.units) + dollars * 1_000_000;
+        let delivered = u64::from(price) * u64::from(lot.units) + dollars * DOLLAR;
         let struck = u64::from(lot.strike) * u64::from(lot.strike_lot);
         match lot.right {
             Right::Without => 0,

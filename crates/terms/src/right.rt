@@ -8,9 +8,9 @@ use crate::refusal::Refusal;
 
 #[derive(Clone, Copy, PartialEq, Eq, Debug)]
 pub enum Right {
-    Without,
-    Call,
-    Put,
+    Without = 0,
+    Call = 1,
+    Put = 2,
 }
 
 /// The right that a call's number stands for.
@@ -34,10 +34,6 @@ impl From<Right> for u8 {
     ghost from_gives = { λ right number. number ≡ right_number right };
 
     fn from(right: Right) -> u8 {
-        match right {
-            Right::Without => 0,
-            Right::Call => 1,
-            Right::Put => 2,
-        }
+        right as u8
     }
 }

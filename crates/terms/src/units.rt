@@ -17,6 +17,9 @@ pub type Dollars = u32;
 /// Values, in millionths of a dollar.
 pub type Micros = u64;
 
+/// A dollar in micros.
+pub const DOLLAR: Micros = 1_000_000;
+
 pub const LAST_DAY: Day = 60_000;
 
 pub const LARGEST_PRICE: Cents = 1_000_000;

@@ -1,17 +1,18 @@
 //! What a lot is worth at a price.
-ghost use Rattle.std.specs.Prelude.{◌≡◌};
+ghost use Rattle.std.specs.Prelude.{◌≡◌, ◌*◌, ◌^◌, ◌<◌};
 ghost use Rattle.terms.specs.Worth.{worth_before, worth_after};
 
 use crate::adjust::Adjusted;
 use crate::terms::Terms;
-use crate::units::Cents;
+use crate::units::{Cents, DOLLAR, Dollars};
 
 impl Terms {
     /// The shares at a price and the cash in the lot, in micros.
     pub fn worth(&self, price: Cents) -> u128
-        ensures { result ≡ worth_before price self.now }
+        ensures value { result ≡ worth_before price self.now }
+        ensures most { result < 2 ^ 100 }
     {
-        u128::from(price) * u128::from(self.units) + u128::from(self.cash) * 1_000_000
+        u128::from(price) * u128::from(self.units) + micros(self.cash)
     }
 }
 
@@ -20,7 +21,12 @@ impl Adjusted {
     pub fn worth(&self, price: Cents) -> u128
         ensures { result ≡ worth_after price self.now }
     {
-        let cash = u128::from(self.terms.cash) + u128::from(self.booked);
-        u128::from(price) * u128::from(self.terms.units) + cash * 1_000_000
+        self.terms.worth(price) + micros(self.booked)
     }
+}
+
+fn micros(dollars: Dollars) -> u128
+    ensures { result ≡ dollars * 1000000 }
+{
+    u128::from(dollars) * u128::from(DOLLAR)
 }
