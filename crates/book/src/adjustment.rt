@@ -21,18 +21,7 @@ impl<F: Family> Book<F> {
         ensures lines { Accepted result (λ n. n ≡ lines_taken_in self.old.table day event) }
         ensures after { self.new.table ≡ settled (answer result) (adjustment_table F.Family.answers self.old.table day event) self.old.table }
     {
-        if event.has_bad_prefix() {
-            return Err(Refusal::Malformed);
-        }
-        if !units::is_day(day) || event.is_outside_units() {
-            return Err(Refusal::OutsideUnits);
-        }
-        if event.is_ill_formed() {
-            return Err(Refusal::IllFormedEvent);
-        }
-        if event.is_too_late(day) {
-            return Err(Refusal::DeadlineOutOfOrder);
-        }
+        event.judge(day)?;
         if day < self.table.day {
             return Err(Refusal::DayPassed);
         }

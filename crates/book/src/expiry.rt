@@ -12,7 +12,7 @@ use crate::book::Book;
 use lookup::find;
 use moves::lines::dollars_of;
 use rows::gains::Gain;
-use rows::names::{is_malformed, is_misfit, series_of};
+use rows::names::named;
 use rows::rows::line_at;
 use rows::table::Place;
 use terms::code::Name;
@@ -33,19 +33,12 @@ impl<F: Family> Book<F> {
         ensures refusal { answer result ≡ first (expiry_refusals F.Family.answers self.old.table day name price close) }
         ensures after { self.new.table ≡ settled (answer result) (expiry_table F.Family.answers self.old.table day name price close) self.old.table }
     {
-        if is_malformed::<F>(&name) {
-            return Err(Refusal::Malformed);
-        }
-        if is_expiry_outside(day, &name, price, close) {
-            return Err(Refusal::OutsideUnits);
-        }
-        if is_misfit::<F>(&name) {
-            return Err(Refusal::Misfit);
-        }
+        let is_outside = is_expiry_outside(day, &name, price, close);
+        let series = named::<F>(&name, is_outside)?;
         if day < self.table.day {
             return Err(Refusal::DayPassed);
         }
-        let place = find(&self.table.lines, &Some(series_of::<F>(&name))).ok_or(Refusal::NoLine)?;
+        let place = find(&self.table.lines, &Some(series)).ok_or(Refusal::NoLine)?;
         if day < name.expiry {
             return Err(Refusal::WrongSideOfExpiry);
         }

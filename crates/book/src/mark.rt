@@ -11,7 +11,7 @@ ghost use Rattle.rows.specs.Calls.{settled};
 use crate::book::Book;
 use lookup::find;
 use rows::gains::Gain;
-use rows::names::{is_malformed, is_misfit, series_of};
+use rows::names::named;
 use rows::rows::line_at;
 use rows::table::{Line, Place};
 use terms::code::Name;
@@ -26,19 +26,12 @@ impl<F: Family> Book<F> {
         ensures refusal { answer result ≡ first (mark_refusals F.Family.answers self.old.table day name price) }
         ensures after { self.new.table ≡ settled (answer result) (mark_table F.Family.answers self.old.table day name price) self.old.table }
     {
-        if is_malformed::<F>(&name) {
-            return Err(Refusal::Malformed);
-        }
-        if is_mark_outside(day, &name, price) {
-            return Err(Refusal::OutsideUnits);
-        }
-        if is_misfit::<F>(&name) {
-            return Err(Refusal::Misfit);
-        }
+        let is_outside = is_mark_outside(day, &name, price);
+        let series = named::<F>(&name, is_outside)?;
         if day < self.table.day {
             return Err(Refusal::DayPassed);
         }
-        let place = find(&self.table.lines, &Some(series_of::<F>(&name))).ok_or(Refusal::NoLine)?;
+        let place = find(&self.table.lines, &Some(series)).ok_or(Refusal::NoLine)?;
         if name.expiry < day {
             return Err(Refusal::WrongSideOfExpiry);
         }

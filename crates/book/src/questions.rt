@@ -6,7 +6,7 @@ ghost use Rattle.rows.specs.Questions.{terms_refusals, terms_answer, lots_refusa
 
 use crate::book::Book;
 use lookup::find;
-use rows::names::{is_malformed, is_misfit, series_of};
+use rows::names::named;
 use rows::rows::line_at;
 use terms::code::Name;
 use terms::family::Family;
@@ -21,16 +21,8 @@ impl<F: Family> Book<F> {
         ensures refusal { answer result ≡ first (terms_refusals F.Family.answers self.now.table name) }
         ensures value { Accepted result (λ t. t ≡ terms_answer F.Family.answers self.now.table name) }
     {
-        if is_malformed::<F>(&name) {
-            return Err(Refusal::Malformed);
-        }
-        if !units::is_day(name.expiry) {
-            return Err(Refusal::OutsideUnits);
-        }
-        if is_misfit::<F>(&name) {
-            return Err(Refusal::Misfit);
-        }
-        let place = find(&self.table.lines, &Some(series_of::<F>(&name))).ok_or(Refusal::NoLine)?;
+        let series = name.read::<F>()?;
+        let place = find(&self.table.lines, &Some(series)).ok_or(Refusal::NoLine)?;
         Ok(line_at(&self.table.lines, place).terms)
     }
 
@@ -39,16 +31,9 @@ impl<F: Family> Book<F> {
         ensures refusal { answer result ≡ first (lots_refusals F.Family.answers self.now.table account name) }
         ensures value { Accepted result (λ z. z ≡ lots_answer F.Family.answers self.now.table account name) }
     {
-        if is_malformed::<F>(&name) {
-            return Err(Refusal::Malformed);
-        }
-        if !units::is_day(name.expiry) || !units::is_number(account) {
-            return Err(Refusal::OutsideUnits);
-        }
-        if is_misfit::<F>(&name) {
-            return Err(Refusal::Misfit);
-        }
-        let place = find(&self.table.lines, &Some(series_of::<F>(&name))).ok_or(Refusal::NoLine)?;
+        let is_outside = !units::is_day(name.expiry) || !units::is_number(account);
+        let series = named::<F>(&name, is_outside)?;
+        let place = find(&self.table.lines, &Some(series)).ok_or(Refusal::NoLine)?;
         let row = find(&self.table.accounts, &account).ok_or(Refusal::AccountNotOpen)?;
         Ok(self.table.accounts[row].lots[place])
     }

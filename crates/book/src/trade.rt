@@ -12,7 +12,7 @@ use crate::book::Book;
 use lookup::find;
 use rows::account::{either_has_too_many, either_has_too_much};
 use rows::gains::Gain;
-use rows::names::{is_malformed, is_misfit, series_of};
+use rows::names::named;
 use rows::rows::line_at;
 use terms::code::Name;
 use terms::family::Family;
@@ -34,22 +34,15 @@ impl<F: Family> Book<F> {
         ensures refusal { answer result ≡ first (trade_refusals F.Family.answers self.old.table day name buyer seller price lots) }
         ensures after { self.new.table ≡ settled (answer result) (trade_table F.Family.answers self.old.table day name buyer seller price lots) self.old.table }
     {
-        if is_malformed::<F>(&name) {
-            return Err(Refusal::Malformed);
-        }
-        if is_trade_outside(day, &name, buyer, seller, price, lots) {
-            return Err(Refusal::OutsideUnits);
-        }
-        if is_misfit::<F>(&name) {
-            return Err(Refusal::Misfit);
-        }
+        let is_outside = is_trade_outside(day, &name, buyer, seller, price, lots);
+        let series = named::<F>(&name, is_outside)?;
         if buyer == seller {
             return Err(Refusal::SameAccount);
         }
         if day < self.table.day {
             return Err(Refusal::DayPassed);
         }
-        let place = find(&self.table.lines, &Some(series_of::<F>(&name))).ok_or(Refusal::NoLine)?;
+        let place = find(&self.table.lines, &Some(series)).ok_or(Refusal::NoLine)?;
         let b = find(&self.table.accounts, &buyer).ok_or(Refusal::AccountNotOpen)?;
         let s = find(&self.table.accounts, &seller).ok_or(Refusal::AccountNotOpen)?;
         if name.expiry < day {

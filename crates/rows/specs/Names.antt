@@ -1,5 +1,5 @@
 -- A name that a call gives, as the book's family reads it.
-use Rattle.std.specs.Prelude.{ℕ, Bool, false, not, ◌&&◌, is_some, Some, None, Option, ◌==◌}
+use Rattle.std.specs.Prelude.{ℕ, Bool, false, not, ◌&&◌, List, [], ◌∷◌, is_some, Some, None, Option, ◌==◌}
 use Rattle.terms.specs.Names.{is_prefix}
 use Rattle.terms.specs.Family.{Answers}
 use Rattle.terms.specs.Reading.{code_level, name_fits, series_named}
@@ -21,6 +21,10 @@ series_or (Some s) = s
 -- the series that a name stands for, where it is neither malformed nor a misfit
 abbrev pub series_of : Answers → Name → Series
 series_of a n = series_or (series_named a n)
+
+-- what a name is refused for, and the numbers that are given with it
+abbrev pub naming_refusals : Answers → Name → Bool → List (ℕ × Bool)
+naming_refusals a n outside = (1, malformed a n) ∷ (2, outside) ∷ (3, misfit a n) ∷ []
 
 abbrev pub is_letter : Option ℕ → ℕ → Bool
 is_letter None c = false
