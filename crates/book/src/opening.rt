@@ -13,6 +13,7 @@ use terms::refusal::Refusal;
 use terms::units;
 use terms::units::Day;
 
+// A row that is not in use; the rows are a fixed block of memory.
 const UNUSED: Account = Account {
     number: 0,
     equity: 0,

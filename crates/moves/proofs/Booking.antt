@@ -1,6 +1,5 @@
 -- What an event books: bounds of the dollars for a lot, and the sum over the places of a row.
 use Rattle.std.proofs.Common.{◌≡◌, ℕ, zero, suc, ◌+◌, ◌*◌, ◌<◌, ◌≤◌, Bool, true, false, cond, List, [], ◌∷◌, map, length, get_or, drop, ℤ, pos, ◌+ℤ◌, ◌*ℤ◌, nat_abs, sym, refl, ap, ◌∙◌, add-one, arith}
-use Rattle.std.proofs.lemmas.List.{drop_all}
 use Rattle.std.proofs.lemmas.Int.{ints}
 use Rattle.std.proofs.lemmas.Bool.{and_parts, and_from, le-leb, leb-true}
 use Rattle.sweep.specs.Sweep.{all_of}
@@ -82,11 +81,3 @@ module _ (ns : List ℤ) (ds : List ℕ) (j : ℕ) (in_ns : j < length ns) (in_d
 
 pub sum_in : (j : ℕ) (sum part sum' : ℤ) → nat_abs sum ≤ j * 80000000000000000 → nat_abs part ≤ 80000000000000000 → sum' ≡ sum +ℤ part → nat_abs sum' ≤ (j + 1) * 80000000000000000
 sum_in j sum part sum' h k e = omega (arith, ap nat_abs e, abs_add sum part)
-
-pub credit_all : (ns : List ℤ) (ds : List ℕ) (j : ℕ) (sum : ℤ) → length ns ≤ j → sum +ℤ credit (drop j ns) (drop j ds) ≡ credit ns ds → sum ≡ credit ns ds
-credit_all ns ds j sum h e =
-    let z : credit (drop j ns) (drop j ds) ≡ pos 0 = ap (λ (ms : List ℤ). credit ms (drop j ds)) (drop_all j ns h) in
-    plain sum (credit (drop j ns) (drop j ds)) (credit ns ds) z e
-  where
-    plain : (x y w : ℤ) → y ≡ pos 0 → x +ℤ y ≡ w → x ≡ w
-    plain x y w p q = omega (arith, ints)

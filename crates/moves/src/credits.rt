@@ -11,8 +11,9 @@ use rows::account::{is_too_much, moved};
 use rows::table::{Account, PLACES, Place};
 use sweep::{Change, change_all};
 use terms::family::Family;
-use terms::units::Dollars;
+use terms::units::{DOLLAR, Dollars};
 
+// As `Gain`, for all places at once; a trait for both would state each contract twice.
 impl Entries {
     /// What the event books to each lot of the lines that it takes in.
     pub fn of<F: Family>(lines: &[Place; PLACES], onset: &Onset) -> Entries
@@ -20,7 +21,8 @@ impl Entries {
         ensures { result.dollars ≡ map (entry F.Family.answers onset.now.day onset.now.event) lines.now }
     {
         let mut dollars = [0; PLACES];
-        // By the index: of a `zip` over `iter_mut` the check knows the length alone, and the proof stays open.
+        // By the index: of a `zip` over `iter_mut` the check knows the length alone, and of `array::from_fn` not
+        // which lines its closure saw, so the proof stays open; `map` would take all places by value.
         for (j, place) in lines.iter().enumerate() {
             dollars[j] = booked::<F>(place, onset);
         }
@@ -87,9 +89,10 @@ fn credit(lots: &[i32], dollars: &[Dollars]) -> i64
     ensures value { result ≡ credit_of lots.now dollars.now }
     ensures bound { unsigned_abs result ≤ 3840000000000000000 }
 {
+    // By a `for`: the bound on the sum grows with each place, which the closure of a `fold` cannot say.
     let mut sum = 0;
     for (n, booked) in lots.iter().zip(dollars) {
-        sum = moved(sum, *n, 0, u64::from(*booked) * 1_000_000);
+        sum = moved(sum, *n, 0, u64::from(*booked) * DOLLAR);
     }
     sum
 }

@@ -102,7 +102,7 @@ impl Change for Fix {
     }
 }
 
-/// What a claim within its units is worth at a close.
+/// What a claim within its units is worth at a close. (By `as`: it fits, as the check proves.)
 pub fn dollars_of(claim: &Claim, close: Cents) -> Dollars
     requires { (claim_fits claim.now ≡ true) × (close ≤ 1000000) }
     ensures { result ≡ claim_dollars close claim.now }

@@ -76,7 +76,8 @@ impl Onset {
     }
 }
 
-// What the event finds in one place.
+// What the event finds in one place. By cases in each: an `Option` of what becomes of the line would need a
+// definition of its own.
 impl Onset {
     // Whether it takes in the line in the place.
     fn takes_in(&self, place: &Place) -> bool
@@ -94,11 +95,8 @@ impl Onset {
     fn finds_lapsed(&self, place: &Place) -> bool
         ensures { result ≡ lapsed self.now.day self.now.event place.now }
     {
-        match place {
-            Place::Free => false,
-            Place::Taken(line) => line.terms.stock == self.event.stock
-                && line.terms.series.expiry < self.day,
-        }
+        let stock = self.event.stock;
+        matches!(place, Place::Taken(line) if line.terms.stock == stock && line.terms.series.expiry < self.day)
     }
 
     fn contradicts(&self, place: &Place) -> bool

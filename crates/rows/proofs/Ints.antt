@@ -1,5 +1,5 @@
 -- Bounds of the signed arithmetic of a row.
-use Rattle.std.proofs.Common.{◌≡◌, ℕ, zero, suc, ◌+◌, ◌*◌, ◌≤◌, ℤ, pos, negsuc, ◌+ℤ◌, ◌-ℤ◌, ◌*ℤ◌, neg_ℤ, nat_abs, sym, refl, subst, mul-le-mul, arith, w32, w64, SFits}
+use Rattle.std.proofs.Common.{◌≡◌, ℕ, zero, suc, ◌+◌, ◌*◌, ◌≤◌, ℤ, pos, negsuc, ◌+ℤ◌, ◌-ℤ◌, ◌*ℤ◌, neg_ℤ, nat_abs, sym, refl, subst, mul-le-mul, arith, w64, SFits}
 use Rattle.std.proofs.lemmas.Int.{ints}
 
 pub abs_neg : (n : ℕ) → nat_abs (neg_ℤ (pos n)) ≡ n
@@ -20,9 +20,6 @@ mul_in x y m n h k = subst (λ (z : ℕ). z ≤ m * n) (sym (abs_mul x y)) (mul-
 
 pub in64 : (z : ℤ) → nat_abs z ≤ 8000000000000000000 → SFits w64 z
 in64 z h = omega (arith, ints)
-
-pub in32 : (z : ℤ) → nat_abs z ≤ 2000000000 → SFits w32 z
-in32 z h = omega (arith, ints)
 
 pub product_fits : (x y : ℤ) → nat_abs x ≤ 4000 → nat_abs y ≤ 1000000000000000 → nat_abs (x *ℤ y) ≤ 4000000000000000000
 product_fits x y h k = mul_in x y 4000 1000000000000000 h k

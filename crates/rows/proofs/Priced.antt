@@ -130,13 +130,6 @@ lot_priced a l o lot price e f h =
     ap (λ (x : Lot). priced a x price) (e ∙ ap (λ (x : Line). lot_of x.terms) f) ∙ h
 
 -- a place that was found by a series that was read from a name
-pub found_by :
-    (a : Answers) (n : Name) (k : Series) (lines : List Place) (j : ℕ) →
-    k ≡ series_of a n →
-    Some j ≡ sought (holds (Some k)) lines →
-    Some j ≡ sought (holds (Some (series_of a n))) lines
-found_by a n k lines j e h = h ∙ ap (λ (x : Series). sought (holds (Some x)) lines) e
-
 -- a standard letter is the letter of level 0
 letter_found : (a : Answers) → Law a → (o : Option ℕ) (c : ℕ) → a.letter 0 ≡ o → is_letter o c ≡ true → a.level c ≡ Some 0
 letter_found a law None c e h = absurd (both_ways false refl h)

@@ -1,5 +1,7 @@
 -- The book's numbers stay within their limits.
-use Rattle.std.proofs.Common.{◌≡◌, ℕ, zero, suc, ◌≤◌, true, false, leb, List, [], ◌∷◌, map, get_or, set, ℤ, pos, ◌+ℤ◌, ◌*ℤ◌, nat_abs, sym, refl, ap, ◌∙◌, subst, arith}
+use Rattle.std.proofs.Common.{◌≡◌, ℕ, zero, suc, ◌<◌, ◌≤◌, true, false, leb, List, [], ◌∷◌, map, length, get_or, set, ℤ, pos, ◌+ℤ◌, ◌*ℤ◌, nat_abs, sym, refl, ap, ◌∙◌, subst, arith}
+use Rattle.std.proofs.lemmas.List.{get_or_default}
+use Rattle.std.proofs.lemmas.List.Sums.{list_all-from_AllPass}
 use Rattle.std.proofs.lemmas.Bool.{and_parts, and_from, leb-true, le-leb, ltb-false}
 use Rattle.lookup.specs.Seek.{any_of}
 use Rattle.terms.specs.Units.{most_lots, most_equity, largest_value}
@@ -8,6 +10,7 @@ use Rattle.terms.specs.declared.terms.Terms.{Terms}
 use Rattle.sweep.specs.Sweep.{all_of}
 use Rattle.sweep.proofs.Every.{all_at, all_set, all_from, all_map}
 use Rattle.rows.specs.Rows.{line_or, lots_in, no_account}
+use Rattle.rows.specs.Held.{Held}
 use Rattle.rows.specs.Fits.{past, line_fits, few, row_fits, can_gain}
 use Rattle.rows.specs.Trade.{traded}
 use Rattle.rows.specs.Mark.{gained, gains_past}
@@ -35,9 +38,6 @@ pub line_in : (t : Terms) (carry : ℕ) → terms_fit t ≡ true → carry ≤ l
 line_in t carry h k = and_from (terms_fit t) (leb carry largest_value) h (le-leb carry largest_value k)
 
 -- rows
-equity_in : (r : Account) → row_fits r ≡ true → nat_abs r.equity ≤ most_equity
-equity_in r e = leb-true (nat_abs r.equity) most_equity (and_parts (leb (nat_abs r.equity) most_equity) (all_of few r.lots) e).0
-
 lots_few : (r : Account) → row_fits r ≡ true → all_of few r.lots ≡ true
 lots_few r e = (and_parts (leb (nat_abs r.equity) most_equity) (all_of few r.lots) e).1
 
@@ -49,11 +49,20 @@ can_gain_of j r f =
     and_from (leb (nat_abs r.equity) most_equity) (few (lots_in j r)) (and_parts (leb (nat_abs r.equity) most_equity) (all_of few r.lots) f).0
     (all_at few r.lots j (pos 0) refl (lots_few r f))
 
-pub can_gain_at : (rows : List Account) (i j : ℕ) → all_of row_fits rows ≡ true → can_gain j (get_or rows i no_account) ≡ true
-can_gain_at rows i j e = can_gain_of j (get_or rows i no_account) (all_at row_fits rows i no_account refl e)
-
 pub all_can_gain : (rows : List Account) (j : ℕ) → all_of row_fits rows ≡ true → all_of (can_gain j) rows ≡ true
 all_can_gain rows j = all_from row_fits (can_gain j) (can_gain_of j) rows
+
+pub all_held :
+    (rows : List Account) (j from to : ℕ) → ((i : ℕ) → i < length rows → Held (get_or rows i no_account) j from to) →
+    all_of (can_gain j) rows ≡ true
+all_held rows j from to h =
+    list_all-from_AllPass (can_gain j) rows
+    (λ k d l.
+    let held = h k l in
+    let r = get_or rows k no_account in
+    ap (can_gain j) (get_or_default rows k d no_account l)
+    ∙ and_from (leb (nat_abs r.equity) most_equity) (few (lots_in j r)) (le-leb (nat_abs r.equity) most_equity held.equity)
+    (le-leb (nat_abs (lots_in j r)) most_lots held.lots))
 
 pub gained_fit :
     (rows : List Account) (j : ℕ) (gain : ℤ) → all_of row_fits rows ≡ true → any_of (gains_past j gain) rows ≡ false →

@@ -17,6 +17,7 @@ pub fn moved(equity: i64, lots: i32, from: Micros, to: Micros) -> i64
     requires new { to ≤ 1000000000000000 }
     ensures { result ≡ equity +ℤ (lots *ℤ change from to) }
 {
+    // By `as`: it fits, as the check proves, and `try_from` would answer an error that never comes.
     let by = to as i64 - from as i64;
     let part = i64::from(lots) * by;
     equity + part
@@ -37,6 +38,9 @@ pub fn is_too_much(equity: i64) -> bool
 }
 
 impl Account {
+    // Two names for `trades`, so that no caller writes a sign. (That lots are few is a clause: the `u16` of a call
+    // is judged before it comes here.)
+
     /// The row after a purchase at `gain.from` in a line that is carried at `gain.to`.
     pub fn buys(&self, lots: u16, gain: &Gain) -> Account
         requires few { lots ≤ 4000 }
@@ -81,6 +85,8 @@ impl Account {
         is_too_much(self.equity)
     }
 }
+
+// Of two accounts, here and below, as a trade judges both before it writes either.
 
 pub fn either_has_too_many(a: &Account, b: &Account, j: usize) -> bool
     requires { j < 48 }

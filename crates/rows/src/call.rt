@@ -1,4 +1,4 @@
-//! A call with its arguments, as one value.
+//! A call with its arguments, as one value. The book's own calls take them one by one, as their definitions do.
 use terms::code::Name;
 use terms::event::Event;
 use terms::units::{Cents, Day, ShareUnits};

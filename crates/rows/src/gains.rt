@@ -1,10 +1,11 @@
 //! A gain of each lot in a place, and what it makes of accounts. That an account can gain is a clause, and no
 //! ghost field of `Account`: a trade makes two accounts and only then judges them.
-ghost use Rattle.std.specs.Prelude.{◌≡◌, ◌<◌, ◌≤◌, true, map, ◌+ℤ◌, ◌*ℤ◌};
+ghost use Rattle.std.specs.Prelude.{◌≡◌, ℕ, ◌<◌, ◌≤◌, true, map, length, slice_index_or, ◌+ℤ◌, ◌*ℤ◌};
 ghost use Rattle.lookup.specs.Seek.{any_of};
 ghost use Rattle.sweep.specs.Sweep.{all_of};
-ghost use Rattle.rows.specs.Rows.{lots_in};
+ghost use Rattle.rows.specs.Rows.{lots_in, no_account};
 ghost use Rattle.rows.specs.Fits.{can_gain};
+ghost use Rattle.rows.specs.Held.{Held};
 ghost use Rattle.rows.specs.Trade.{change};
 ghost use Rattle.rows.specs.Mark.{gained, gains_past};
 ghost use Rattle.rows.specs.Expiry.{closed};
@@ -95,5 +96,24 @@ impl Change for Closing {
     fn change(&self, account: &mut Account) {
         self.gain.change(account);
         account.lots[self.gain.place] = 0;
+    }
+}
+
+/// Whether some account's equity would pass its limit, were each lot in a place to gain: for any numbers where there
+/// are no accounts.
+pub fn any_gains_too_much(rows: &[Account], j: usize, from: u64, to: u64) -> bool
+    requires { (j < 48) × (((i : ℕ) → i < length rows.now → Held (slice_index_or rows.now i no_account) j from to)) }
+    ensures { result ≡ any_of (gains_past j (change from to)) rows.now }
+{
+    !rows.is_empty() && Gain { place: j, from, to }.passes_a_limit(rows)
+}
+
+/// Each lot in a place gains, for any numbers where there are no accounts.
+pub fn gain_all(rows: &mut [Account], j: usize, from: u64, to: u64)
+    requires { (j < 48) × (((i : ℕ) → i < length rows.old → Held (slice_index_or rows.old i no_account) j from to)) }
+    ensures { rows.new ≡ map (gained j (change from to)) rows.old }
+{
+    if !rows.is_empty() {
+        Gain { place: j, from, to }.give(rows);
     }
 }

@@ -26,10 +26,7 @@ pub fn is_malformed<F: Family>(name: &Name) -> bool
 pub fn is_misfit<F: Family>(name: &Name) -> bool
     ensures { result ≡ misfit F.Family.answers name.now }
 {
-    match Right::try_from(name.right) {
-        Ok(right) => !F::fits(right, name.strike),
-        Err(_) => true,
-    }
+    !Right::try_from(name.right).is_ok_and(|right| F::fits(right, name.strike))
 }
 
 /// The series of a name that is neither malformed nor a misfit.

@@ -20,6 +20,7 @@ impl Keyed for Place {
 
     ghost covers = { Prim.search rules };
 
+    // By cases, here and below: a key made of each place would copy its series.
     fn may_have(&self, key: &Option<Series>) -> bool {
         match (self, key) {
             (Place::Taken(line), Some(series)) => line.terms.series.expiry == series.expiry,
@@ -47,7 +48,7 @@ impl Keyed for Account {
     ghost covers = { Prim.search rules };
 
     fn may_have(&self, key: &u32) -> bool {
-        self.number == *key
+        self.has_key(key)
     }
 
     fn has_key(&self, key: &u32) -> bool {

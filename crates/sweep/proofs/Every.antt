@@ -31,10 +31,6 @@ module _ {X : Type 0} (p : X → Bool) where
   all_from q f (x ∷ xs) e =
       let u = and_parts (p x) (all_of p xs) e in and_from (q x) (all_of q xs) (f x u.0) (all_from q f xs u.1)
 
-pub all_every : {X : Type 0} (p : X → Bool) → ((x : X) → p x ≡ true) → (xs : List X) → all_of p xs ≡ true
-all_every p f [] = refl
-all_every p f (x ∷ xs) = and_from (p x) (all_of p xs) (f x) (all_every p f xs)
-
 -- what passes one test and fails another passes a third once it is changed
 pub all_map :
     {X Y : Type 0} (p : X → Bool) (bad : X → Bool) (f : X → Y) (q : Y → Bool) →

@@ -1,4 +1,4 @@
-use Rattle.std.proofs.Common.{◌≡◌, false, ◌∷◌, refl, ◌∙◌, nat_lt, arith, rules}
+use Rattle.std.proofs.Common.{◌≡◌, ◌∷◌, refl, ◌∙◌, nat_lt, arith, rules}
 use Rattle.std.proofs.lemmas.Bool.Decides.{nat_tests}
 use Rattle.terms.specs.Refusals.{number_of, answer, first}
 use Rattle.terms.specs.Events.{event_refusals}

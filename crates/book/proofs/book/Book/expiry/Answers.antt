@@ -29,13 +29,13 @@ returns-in_err-close_line-clause-refusal g c =
     let n = c.args.name in
     let r = c.in_err-close_line.field-0.0 in
     let head : List (ℕ × Bool) =
-        (1, malformed a n)
-        ∷ (2, expiry_outside c.args.day n c.args.price c.args.close)
-        ∷ (3, misfit a n)
-        ∷ (11, nat_lt c.args.day t.day)
-        ∷ (12, missing (found_line t (series_of a n)))
-        ∷ (19, nat_lt c.args.day n.expiry)
-        ∷ [] in
+    (1, malformed a n)
+    ∷ (2, expiry_outside c.args.day n c.args.price c.args.close)
+    ∷ (3, misfit a n)
+    ∷ (11, nat_lt c.args.day t.day)
+    ∷ (12, missing (found_line t (series_of a n)))
+    ∷ (19, nat_lt c.args.day n.expiry)
+    ∷ [] in
     let formed : malformed a n ≡ false = search rules in
     let fits : misfit a n ≡ false = search rules in
     let outside : expiry_outside c.args.day n c.args.price c.args.close ≡ false = search rules in
@@ -46,5 +46,5 @@ returns-in_err-close_line-clause-refusal g c =
     let clear : 0 ≡ first head = simp (formed, outside, fits, in_time, listed, due) refl in
     let same : answer c.from_residual-in_err-close_line.result ≡ number_of r = search rules in
     let closing : number_of r ≡ first (closing_refusals a t (place t (series_of a n)) c.args.price c.args.close) =
-        c.in_err-close_line.ensures.refusal ∙ ap (λ (j : ℕ). first (closing_refusals a t j c.args.price c.args.close)) (ap (index_or places) found) in
+    c.in_err-close_line.ensures.refusal ∙ ap (λ (j : ℕ). first (closing_refusals a t j c.args.price c.args.close)) (ap (index_or places) found) in
     same ∙ (closing ∙ first_of_rest head (closing_refusals a t (place t (series_of a n)) c.args.price c.args.close) refl clear)
