@@ -157,6 +157,7 @@ fn split_year(day: u16) -> (u16, u16)
 }
 
 // The month of a day of a year, and the days before it in that month. A `while`, as for the year.
+// Two functions: one that takes the lengths would have each caller prove where they end.
 fn split_month(year: u16, day: u16) -> (u8, u16)
     requires { day < year_length year }
     ensures first { 1 ≤ result.0 }
