@@ -9,6 +9,7 @@ use terms::family::Family;
 use terms::futures::Futures;
 use terms::options::Options;
 use terms::refusal::Refusal;
+use terms::right::Right;
 use terms::terms::Terms;
 use terms::units::ONE;
 
@@ -22,6 +23,7 @@ const STOCK: u32 = 1605;
 const LOT: u32 = 20_000_000;
 
 /// The family of a line: a value, since one table has lines of both.
+// As the program's; neither crate rests on the other.
 #[derive(Clone, Copy)]
 enum Book {
     Futures,
@@ -57,8 +59,24 @@ const FIXED: Claim = Claim::Fixed { dollars: 0 };
 
 const NONE: Rights = Rights::NONE;
 
+/// The rehearsal's rights: to 0.1 shares at 20.00.
+const REHEARSED: Rights = Rights {
+    rate: 100_000_000,
+    price: 2_000,
+    deadline: 8_006,
+};
+
+/// The notice's: to 69.94366435 shares for a thousand. (It leaves the subscription price to the company;
+/// 30.00 is assumed.)
+const NOTICED: Rights = Rights {
+    rate: 69_943_664,
+    price: 3_000,
+    deadline: 8_250,
+};
+
 const STAYS: Successor = Successor::NONE;
 
+// Field by field, since a constant calls no function.
 const INTO_CV: Successor = Successor {
     stock: 2325,
     prefix: Prefix {
@@ -150,7 +168,7 @@ const PUBLISHED: [Case; 40] = [
         Pays(1_000_000, 1_050_000_000, NONE, STAYS),
         Ok(Becomes(b"CFA", 21_000_000, 2_000, 0, 0)),
     ),
-    // Slides: rights to 100 shares for 2,000 at 16.30. Rehearsal: to 0.1 shares at 20.00.
+    // Slides: rights to 100 shares for 2,000 at 16.30. Rehearsal: its rights.
     Case(
         Line(F, b"CNF", LOT, 0, ABSENT),
         Pays(
@@ -167,60 +185,23 @@ const PUBLISHED: [Case; 40] = [
     ),
     Case(
         Line(F, b"CGF", LOT, 0, ABSENT),
-        Pays(
-            0,
-            ONE,
-            Rights {
-                rate: 100_000_000,
-                price: 2_000,
-                deadline: 8_006,
-            },
-            STAYS,
-        ),
+        Pays(0, ONE, REHEARSED, STAYS),
         Ok(Becomes(b"CG1", LOT, 0, 0, 2_000_000)),
     ),
     Case(
         Line(O, b"CGO", LOT, 0, ABSENT),
-        Pays(
-            0,
-            ONE,
-            Rights {
-                rate: 100_000_000,
-                price: 2_000,
-                deadline: 8_006,
-            },
-            STAYS,
-        ),
+        Pays(0, ONE, REHEARSED, STAYS),
         Ok(Becomes(b"CGA", LOT, 0, 0, 2_000_000)),
     ),
-    // The notice: rights to 69.94366435 shares for a thousand, and 1.6 dollars. (The notice leaves the
-    // subscription price to the company; 30.00 is assumed.)
+    // The notice: rights, and 1.6 dollars.
     Case(
         Line(F, b"CSF", LOT, 0, ABSENT),
-        Pays(
-            1_600_000,
-            ONE,
-            Rights {
-                rate: 69_943_664,
-                price: 3_000,
-                deadline: 8_250,
-            },
-            STAYS,
-        ),
+        Pays(1_600_000, ONE, NOTICED, STAYS),
         Ok(Becomes(b"CS1", LOT, 0, 3_200, 1_398_873)),
     ),
     Case(
         Line(O, b"CSO", LOT, 0, ABSENT),
-        Pays(
-            1_600_000,
-            ONE,
-            Rights {
-                rate: 69_943_664,
-                price: 3_000,
-                deadline: 8_250,
-            },
-            STAYS,
-        ),
+        Pays(1_600_000, ONE, NOTICED, STAYS),
         Ok(Becomes(b"CSA", LOT, 3_200, 0, 1_398_873)),
     ),
     // Slides: 2 dollars are paid back and 0.8 shares are left. Rehearsal: 1 dollar and 0.9.
@@ -847,12 +828,12 @@ impl Case {
     fn check(&self, rt: &impl Abort) {
         let Case(Line(book, ..), ..) = *self;
         match book {
-            Book::Futures => self.check_in::<Futures>(rt, 0, 0),
-            Book::Options => self.check_in::<Options>(rt, 1, 5_000),
+            Book::Futures => self.check_in::<Futures>(rt, Right::Without, 0),
+            Book::Options => self.check_in::<Options>(rt, Right::Call, 5_000),
         }
     }
 
-    fn check_in<K: Family>(&self, rt: &impl Abort, right: u8, strike: u32) {
+    fn check_in<K: Family>(&self, rt: &impl Abort, right: Right, strike: u32) {
         let Case(Line(_, _, listed, ..), _, outcome) = *self;
         let expected = outcome.map(|Becomes(text, units, cash, booked, claimed)| {
             let code = code_of(text);
@@ -874,13 +855,13 @@ impl Case {
     }
 
     // The line after the event.
-    fn adjusted<K: Family>(&self, right: u8, strike: u32) -> Result<Adjusted, Refusal> {
+    fn adjusted<K: Family>(&self, right: Right, strike: u32) -> Result<Adjusted, Refusal> {
         let Case(Line(_, text, units, held, claim), Pays(cash, ratio, rights, successor), _) =
             *self;
         let name = Name {
             code: code_of(text),
             expiry: 9_000,
-            right,
+            right: u8::from(right),
             strike,
         };
         let line = Terms {

@@ -2,7 +2,8 @@
 use terms::code::{Code, Prefix};
 use terms::refusal::Refusal;
 
-/// Accepted, or refused with this number.
+/// Accepted, or refused with this number: the rules give each refusal its number, and the tables hold it
+/// to that.
 pub(crate) type Answer = Result<(), u8>;
 
 pub(crate) fn answer<T: Drop>(judged: Result<T, Refusal>) -> Answer {

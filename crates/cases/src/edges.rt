@@ -87,101 +87,110 @@ fn with_claim(claim: Claim) -> Terms {
     Terms { claim, ..LINE }
 }
 
-// Goes through numbers, each with whether the line that has it is within its units.
-fn check_within<T: Copy, F: Fn(T) -> Terms>(rt: &impl Abort, line: F, cases: &[(T, bool)])
+// Where the first number stands whose line is not within its units as it is told.
+fn first_misjudged<T: Copy, F: Fn(T) -> Terms>(line: F, cases: &[(T, bool)]) -> Option<usize>
     requires { F.IsAlwaysCallable line }
 {
-    for &(number, within) in cases {
-        assert_eq!(rt; line(number).is_within_units(), within);
-    }
+    cases.iter().position(|&(number, within)| line(number).is_within_units() != within)
 }
+
+/// Numbers of share units, each with whether a lot may have so many.
+const LOT_UNITS: [(u32, bool); 4] = [
+    (0, false),
+    (1, true),
+    (400_000_000, true),
+    (400_000_001, false),
+];
 
 // A line with one number of its lot changed.
 #[test]
 fn lots_within(rt: HostRuntime) {
-    check_within(
-        &rt,
-        |stock| Terms { stock, ..LINE },
-        &[(0, false), (1, true)],
+    assert_eq!(rt;
+        first_misjudged(|stock| Terms { stock, ..LINE }, &[(0, false), (1, true)]),
+        None
     );
-    check_within(
-        &rt,
-        |units| Terms { units, ..LINE },
-        &[
-            (0, false),
-            (1, true),
-            (400_000_000, true),
-            (400_000_001, false),
-        ],
+    assert_eq!(rt;
+        first_misjudged(|units| Terms { units, ..LINE }, &LOT_UNITS),
+        None
     );
-    check_within(
-        &rt,
-        |strike_lot| Terms { strike_lot, ..LINE },
-        &[
-            (0, false),
-            (1, true),
-            (400_000_000, true),
-            (400_000_001, false),
-        ],
+    assert_eq!(rt;
+        first_misjudged(|strike_lot| Terms { strike_lot, ..LINE }, &LOT_UNITS),
+        None
     );
-    check_within(
-        &rt,
-        |cash| Terms { cash, ..LINE },
-        &[(100_000_000, true), (100_000_001, false)],
+    assert_eq!(rt;
+        first_misjudged(
+            |cash| Terms { cash, ..LINE },
+            &[(100_000_000, true), (100_000_001, false)],
+        ),
+        None
     );
 }
 
 // A line with one number of its series changed.
 #[test]
 fn series_within(rt: HostRuntime) {
-    check_within(
-        &rt,
-        |level| in_series(Series {
-            level,
-            ..LINE.series
-        }),
-        &[(9, true), (10, false)],
+    assert_eq!(rt;
+        first_misjudged(
+            |level| in_series(Series {
+                level,
+                ..LINE.series
+            }),
+            &[(9, true), (10, false)],
+        ),
+        None
     );
-    check_within(
-        &rt,
-        |expiry| in_series(Series {
-            expiry,
-            ..LINE.series
-        }),
-        &[(60_000, true), (60_001, false)],
+    assert_eq!(rt;
+        first_misjudged(
+            |expiry| in_series(Series {
+                expiry,
+                ..LINE.series
+            }),
+            &[(60_000, true), (60_001, false)],
+        ),
+        None
     );
-    check_within(
-        &rt,
-        |strike| in_series(Series {
-            strike,
-            ..LINE.series
-        }),
-        &[(1_000_000, true), (1_000_001, false)],
+    assert_eq!(rt;
+        first_misjudged(
+            |strike| in_series(Series {
+                strike,
+                ..LINE.series
+            }),
+            &[(1_000_000, true), (1_000_001, false)],
+        ),
+        None
     );
 }
 
 // A line with a claim.
 #[test]
 fn claims_within(rt: HostRuntime) {
-    check_within(
-        &rt,
-        |units| with_claim(open(units, 1, 1)),
-        &[(0, true), (400_000_000, true), (400_000_001, false)],
+    assert_eq!(rt;
+        first_misjudged(
+            |units| with_claim(open(units, 1, 1)),
+            &[(0, true), (400_000_000, true), (400_000_001, false)],
+        ),
+        None
     );
-    check_within(
-        &rt,
-        |price| with_claim(open(1, price, 1)),
-        &[(0, false), (1, true), (1_000_000, true), (1_000_001, false)],
+    assert_eq!(rt;
+        first_misjudged(
+            |price| with_claim(open(1, price, 1)),
+            &[(0, false), (1, true), (1_000_000, true), (1_000_001, false)],
+        ),
+        None
     );
-    check_within(
-        &rt,
-        |deadline| with_claim(open(1, 1, deadline)),
-        &[(60_000, true), (60_001, false)],
+    assert_eq!(rt;
+        first_misjudged(
+            |deadline| with_claim(open(1, 1, deadline)),
+            &[(60_000, true), (60_001, false)],
+        ),
+        None
     );
-    check_within(
-        &rt,
-        |dollars| with_claim(Claim::Fixed { dollars }),
-        &[(400_000_000, true), (400_000_001, false)],
+    assert_eq!(rt;
+        first_misjudged(
+            |dollars| with_claim(Claim::Fixed { dollars }),
+            &[(400_000_000, true), (400_000_001, false)],
+        ),
+        None
     );
 }
 

@@ -1,6 +1,8 @@
 -- Where a test passes in a list: in another order, in a front, and at one element only.
 use Rattle.std.proofs.Common.{◌≡◌, ℕ, zero, suc, ◌<◌, ◌≤◌, Bool, true, false, not, ◌||◌, List, [], ◌∷◌, map, length, get_or, take, Some, None, Option, sym, refl, ap, ◌∙◌, arith}
-use Rattle.std.proofs.lemmas.Bool.{or_parts, or_from, or_right, both_ways}
+use Rattle.std.proofs.lemmas.Bool.{or_parts, both_ways}
+use Rattle.std.proofs.lemmas.List.Elements.{All-from_get_or}
+use Rattle.std.proofs.lemmas.List.Folds.{list_any_at, list_any_none}
 use Rattle.lookup.specs.Seek.{sought, any_of}
 use Rattle.rows.specs.Rows.{missing, index_or}
 use Rattle.ledger.specs.Agreement.{Perm, none, keep, swap, join, at_found}
@@ -18,27 +20,18 @@ module _ {X : Type 0} (p : X → Bool) where
   any_perm (join q r) = any_perm q ∙ any_perm r
 
   -- nor on what stands past a front, where it passes nowhere
-  any_none : (d : X) (xs : List X) → ((i : ℕ) → i < length xs → p (get_or xs i d) ≡ false) → any_of p xs ≡ false
-  any_none d [] h = refl
-  any_none d (x ∷ xs) h = or_from (p x) (any_of p xs) (h 0 (omega arith)) (any_none d xs (λ i l. h (suc i) (omega arith)))
-
   pub any_take : (d : X) (n : ℕ) (xs : List X) → ((i : ℕ) → n ≤ i → i < length xs → p (get_or xs i d) ≡ false) → any_of p xs ≡ any_of p (take n xs)
-  any_take d zero xs h = any_none d xs (λ i l. h i (omega arith) l)
+  any_take d zero xs h = list_any_none p xs (All-from_get_or (λ x. p x ≡ false) xs d (λ i l. h i (omega arith) l))
   any_take d (suc n) [] h = refl
   any_take d (suc n) (x ∷ xs) h = ap (λ (b : Bool). p x || b) (any_take d n xs (λ i c l. h (suc i) (omega arith) (omega arith)))
 
   -- it passes somewhere where it is found
-  any_at : (xs : List X) (i : ℕ) (d : X) → i < length xs → p (get_or xs i d) ≡ true → any_of p xs ≡ true
-  any_at [] i d l h = absurd (omega arith)
-  any_at (x ∷ xs) zero d l h = ap (λ (b : Bool). b || any_of p xs) h
-  any_at (x ∷ xs) (suc i) d l h = or_right (p x) (any_of p xs) (any_at xs i d (omega arith) h)
-
   pub any_found : (xs : List X) (d : X) → not (missing (sought p xs)) ≡ any_of p xs
   any_found xs d = by (missing (sought p xs)) refl
     where
       by : (b : Bool) → missing (sought p xs) ≡ b → not b ≡ any_of p xs
       by true e = sym (nowhere p xs e)
-      by false e = let f = found p xs 0 e in sym (any_at xs (index_or 0 (sought p xs)) d f.within (f.passes d))
+      by false e = let f = found p xs 0 e in sym (list_any_at p xs (index_or 0 (sought p xs)) d f.within (f.passes d))
 
   -- every element that passes is e
   abbrev pub Only : X → List X → Type 0

@@ -7,8 +7,7 @@ ghost use Rattle.ledger.specs.Asked.{Asked, RowsKept};
 ghost use Rattle.ledger.specs.Worths.{WorthsKept};
 ghost use Rattle.ledger.specs.Promises.{Promises};
 ghost use Rattle.ledger.specs.Runs.{Noted, outcome_number, numbers_given};
-ghost use Rattle.std.specs.Prelude.{◌≡◌, map, IfOk, slice_set};
-ghost use Rattle.terms.specs.Refusals.{answer as answer_of};
+ghost use Rattle.std.specs.Prelude.{◌≡◌, map, IfOk};
 
 use book::book::Book;
 use rows::call::Call;

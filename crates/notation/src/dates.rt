@@ -6,6 +6,9 @@ ghost use Rattle.notation.specs.Decimal.{numeral, number};
 use crate::numbers::{is_numeral, number_in};
 use std::fmt;
 
+// The year of day 0.
+const FIRST_YEAR: u16 = 2000;
+
 #[derive(Debug, Clone, Copy, PartialEq, Eq)]
 pub struct Date {
     pub year: u16,
@@ -21,6 +24,7 @@ impl Date {
     {
         let (year, day) = split_year(day);
         let (month, day) = split_month(year, day);
+        // By as: it fits, as the check proves, and try_from would answer an error that never comes.
         Date {
             year,
             month,
@@ -43,7 +47,7 @@ impl Date {
     fn is_real(&self) -> bool
         ensures { result ≡ real self.now }
     {
-        2000 <= self.year
+        FIRST_YEAR <= self.year
             && (1..=12).contains(&self.month)
             && 1 <= self.day
             && u16::from(self.day) <= month_length(self.year, self.month)
@@ -64,6 +68,7 @@ pub fn read_date(text: &[u8]) -> Option<u16>
     if !is_dashed(text) {
         return None;
     }
+    // By as: they fit, as the check proves, and try_from would answer an error that never comes.
     let date = Date {
         year: few_digits(&text[..4])?,
         month: few_digits(&text[5..7])? as u8,
@@ -85,7 +90,8 @@ fn few_digits(text: &[u8]) -> Option<u16>
     ensures bound { IfSome result (λ n. n < 10 ^ length text.now) }
 {
     if is_numeral(text) {
-        u16::try_from(number_in(text)?).ok()
+        // By as: it fits, as the check proves, and try_from would answer an error that never comes.
+        number_in(text).map(|n| n as u16)
     } else {
         None
     }
@@ -120,7 +126,7 @@ fn days_before_year(year: u16) -> u32
     ensures value { result ≡ days_before_year year }
     ensures bound { result < 2 ^ 25 }
 {
-    let years = u32::from(year) - 2000;
+    let years = u32::from(year - FIRST_YEAR);
     365 * years + (years + 3) / 4 + (years + 399) / 400 - (years + 99) / 100
 }
 
@@ -141,7 +147,7 @@ fn split_year(day: u16) -> (u16, u16)
     ensures sum { days_before_year result.0 + result.1 ≡ day }
     ensures within { result.1 < year_length result.0 }
 {
-    let mut year = 2000;
+    let mut year = FIRST_YEAR;
     let mut rest = day;
     while rest >= year_length(year) {
         rest -= year_length(year);
@@ -151,6 +157,7 @@ fn split_year(day: u16) -> (u16, u16)
 }
 
 // The month of a day of a year, and the days before it in that month. A `while`, as for the year.
+// Two functions: one that takes the lengths would have each caller prove where they end.
 fn split_month(year: u16, day: u16) -> (u8, u16)
     requires { day < year_length year }
     ensures first { 1 ≤ result.0 }

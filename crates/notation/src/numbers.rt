@@ -1,6 +1,6 @@
 //! Decimal numbers: read exactly in units of a power of ten, and written again.
 ghost use Rattle.std.specs.Prelude.{◌≡◌, ◌/◌, ◌%◌, ◌^◌, ◌≤◌, ◌==◌, length, position, All};
-ghost use Rattle.notation.specs.Decimal.{number, numeral, point, worth, fitted, units, read_decimal, trim};
+ghost use Rattle.notation.specs.Decimal.{number, numeral, worth, fitted, units, read_decimal, trim};
 ghost use Rattle.std.specs.Bool.{OnTrue};
 ghost use Rattle.std.specs.Char.{IsAsciiDigit};
 
@@ -89,6 +89,7 @@ fn scaled(whole: &[u8], decimals: &[u8], places: u8) -> Option<u64>
     ensures { result ≡ fitted (worth whole.now decimals.now places) }
 {
     let places = u32::from(places);
+    // By as: it fits, as the check proves, and try_from would answer an error that never comes.
     let written = decimals.len() as u32;
     let whole = number_in(whole)?.checked_mul(10u64.pow(places))?;
     let decimals = number_in(decimals)?.checked_mul(10u64.pow(places - written))?;

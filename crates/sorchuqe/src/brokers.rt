@@ -1,5 +1,6 @@
 //! The second part of the demo: two brokers in a book of futures, run from its list of calls.
 use crate::amounts::Equity;
+use crate::demo::{LOT, PREFIX, STOCK};
 use crate::fault::Fault;
 use book::book::Book;
 use book::call::Call;
@@ -7,22 +8,20 @@ use ledger::{refusals, run};
 use notation::Date;
 use std::alloc::Global;
 use std::fmt::Write;
-use terms::code::{Code, Name, Prefix};
+use terms::code::{Code, Name};
 use terms::futures::Futures;
+use terms::right::Right;
 use terms::units::Day;
 
 const CODE: Code = Code {
-    prefix: Prefix {
-        first: b'C',
-        second: b'N',
-    },
+    prefix: PREFIX,
     letter: b'F',
 };
 
 const DECEMBER: Name = Name {
     code: CODE,
     expiry: 8_390,
-    right: 0,
+    right: Right::Without as u8,
     strike: 0,
 };
 
@@ -44,15 +43,15 @@ const CALLS: [Call; 7] = [
     Call::Listing {
         day: 8_231,
         name: SEPTEMBER,
-        stock: 2891,
-        units: 20_000_000,
+        stock: STOCK,
+        units: LOT,
         price: 2_490,
     },
     Call::Listing {
         day: 8_231,
         name: DECEMBER,
-        stock: 2891,
-        units: 20_000_000,
+        stock: STOCK,
+        units: LOT,
         price: 2_500,
     },
     Call::Trade {

@@ -1,20 +1,29 @@
 //! A real task from beginning to end, told as a story.
 use crate::amounts::{Change, CodeText, money, price, shares, whole};
-use crate::brokers;
 use crate::fault::Fault;
+use crate::{brokers, request};
 use notation::Date;
 use std::alloc::Global;
 use std::fmt::Write;
 use terms::claim::Claim;
 use terms::code::{Code, Name, Prefix};
-use terms::event::{Event, Rights, Successor};
+use terms::event::Event;
 use terms::options::Options;
 use terms::reference::reference_price;
 use terms::refusal::Refusal;
+use terms::right::Right;
 use terms::terms::Terms;
-use terms::units::{Cents, Day, ONE};
+use terms::units::{Cents, Day, ShareUnits};
 
-const STOCK: u32 = 2891;
+pub(crate) const STOCK: u32 = 2891;
+
+/// 2,000 shares.
+pub(crate) const LOT: ShareUnits = 20_000_000;
+
+pub(crate) const PREFIX: Prefix = Prefix {
+    first: b'C',
+    second: b'N',
+};
 
 const LISTED: Day = 8_174;
 
@@ -66,10 +75,7 @@ const STOCK_DIVIDEND: Happening = Happening {
 
 const NO_EVENT: Event = Event {
     stock: STOCK,
-    cash: 0,
-    ratio: ONE,
-    rights: Rights::NONE,
-    successor: Successor::NONE,
+    ..request::NO_EVENT
 };
 
 /// A dividend in July, a new listing, and a stock dividend in October.
@@ -97,23 +103,20 @@ pub(crate) fn story(heap: Global) -> Result<String, Fault> {
 // A line of 2,000 shares with the standard letter.
 fn standard() -> Result<Terms, Refusal> {
     let code = Code {
-        prefix: Prefix {
-            first: b'C',
-            second: b'N',
-        },
+        prefix: PREFIX,
         letter: b'O',
     };
     let name = Name {
         code,
         expiry: EXPIRY,
-        right: 1,
+        right: u8::from(Right::Call),
         strike: 2_500,
     };
     Ok(Terms {
         series: name.read::<Options>()?,
         stock: STOCK,
-        units: 20_000_000,
-        strike_lot: 20_000_000,
+        units: LOT,
+        strike_lot: LOT,
         cash: 0,
         claim: Claim::Absent,
     })

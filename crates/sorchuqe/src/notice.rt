@@ -13,6 +13,7 @@ use terms::futures::Futures;
 use terms::options::Options;
 use terms::reference::reference_price;
 use terms::refusal::Refusal;
+use terms::right::Right;
 use terms::terms::Terms;
 use terms::units::{Cents, LAST_DAY};
 
@@ -26,18 +27,26 @@ struct Outcome {
 
 pub(crate) fn notice(heap: Global, request: &Request) -> Result<String, Fault> {
     match request.book {
-        Book::Futures => written::<Futures>(heap, request, &decided::<Futures>(request, 0, 0)?),
-        Book::Options => written::<Options>(heap, request, &decided::<Options>(request, 1, 1)?),
+        Book::Futures => written::<Futures>(
+            heap,
+            request,
+            &decided::<Futures>(request, Right::Without, 0)?,
+        ),
+        Book::Options => written::<Options>(
+            heap,
+            request,
+            &decided::<Options>(request, Right::Call, 1)?,
+        ),
     }
 }
 
 // An event does not depend on a line's expiry, right or strike: any that fit the family will do.
-fn decided<F: Family>(request: &Request, right: u8, strike: Cents) -> Result<Outcome, Refusal> {
+fn decided<F: Family>(request: &Request, right: Right, strike: Cents) -> Result<Outcome, Refusal> {
     let event = request.event;
     let name = Name {
         code: request.code,
         expiry: LAST_DAY,
-        right,
+        right: u8::from(right),
         strike,
     };
     let before = Terms {

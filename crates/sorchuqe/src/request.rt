@@ -35,7 +35,7 @@ pub struct Request {
     pub event: Event,
 }
 
-const NO_EVENT: Event = Event {
+pub(crate) const NO_EVENT: Event = Event {
     stock: 1,
     cash: 0,
     ratio: ONE,
@@ -131,7 +131,8 @@ pub(crate) fn read(heap: Global, words: &[&str]) -> Result<Request, Fault> {
 }
 
 impl Request {
-    // Each option with its value, in their order.
+    // Each option with its value, in their order. The words stay as they are given: codes and repeats are
+    // looked for before any value is read.
     fn set_all(&mut self, heap: Global, options: &[&str]) -> Result<(), Fault> {
         for pair in options.chunks(2) {
             match pair {

@@ -14,7 +14,8 @@ use terms::terms::Terms;
 /// 2,000 shares.
 pub(crate) const LOT: u32 = 20_000_000;
 
-/// A step is accepted, or refused with this number.
+/// Accepted, or refused with this number: the rules give each refusal its number, and the tables hold it
+/// to that.
 pub(crate) type Answer = Result<(), u8>;
 
 /// How a script's names are written in one family.
@@ -113,7 +114,8 @@ pub(crate) const OPTIONS: [Style; 5] = [
 ];
 
 /// A name: its prefix, followed by `0` for the standard letter, `1` for a letter of another level
-/// or `x` for one that the family has not; then the expiry.
+/// or `x` for one that the family has not; then the expiry. (A letter and no enum, so that each row of a
+/// table stays a line.)
 #[derive(Clone, Copy)]
 pub(crate) enum Label {
     Fit(&'static [u8; 3], u16),
