@@ -207,7 +207,7 @@ fn make<F: Family>(rt: &impl Abort, book: &mut Book<F>, call: Call) -> Answer {
 }
 
 // Looks at the answer to a question, if there is one.
-fn check<T: PartialEq + Debug + Drop>(
+fn ask<T: PartialEq + Debug + Drop>(
     rt: &impl Abort,
     answer: Result<T, Refusal>,
     expected: T,
@@ -249,11 +249,11 @@ fn take<F: Family>(rt: &impl Abort, book: &mut Book<F>, style: &Style, step: Ste
         }
         Step::Terms(label, stock, units) => {
             let name = label.name(style);
-            check(rt, book.terms(name), style.listed(name, stock, units))
+            ask(rt, book.terms(name), style.listed(name, stock, units))
         }
-        Step::Lots(account, label, lots) => check(rt, book.lots(account, label.name(style)), lots),
-        Step::Equity(account, equity) => check(rt, book.equity(account), equity),
-        Step::Day(day) => check(rt, Ok(book.table.day), day),
+        Step::Lots(account, label, lots) => ask(rt, book.lots(account, label.name(style)), lots),
+        Step::Equity(account, equity) => ask(rt, book.equity(account), equity),
+        Step::Day(day) => ask(rt, Ok(book.table.day), day),
     }
 }
 
