@@ -5,7 +5,7 @@ use terms::claim::Claim;
 use terms::code::{Prefix, Series};
 use terms::event::Event;
 use terms::family::Family;
-use terms::units::{Cents, Dollars, ShareUnits};
+use terms::units::{Cents, Day, Dollars, ShareUnits};
 
 /// Shares, as 2,073.9967.
 pub(crate) fn shares(units: ShareUnits) -> Decimal {
@@ -132,16 +132,54 @@ impl fmt::Display for Equity {
     }
 }
 
-/// What a number was and what it becomes, as 2,000 -> 2,200.
+/// What something was and what it becomes, as 2,000 -> 2,200; one that stays is written once.
 #[derive(Clone, Copy)]
-pub(crate) struct Change {
-    pub(crate) before: Decimal,
-    pub(crate) after: Decimal,
+pub(crate) struct Change<T> {
+    pub(crate) before: T,
+    pub(crate) after: T,
 }
 
-impl fmt::Display for Change {
+impl<T: fmt::Display + PartialEq> fmt::Display for Change<T> {
     fn fmt<W: fmt::Write>(&self, f: &mut fmt::Formatter<W>) -> fmt::Result {
-        let Change { before, after } = *self;
-        write!(f, "{before} -> {after}")
+        let Change { before, after } = self;
+        if before == after {
+            write!(f, "{after}")
+        } else {
+            write!(f, "{before} -> {after}")
+        }
+    }
+}
+
+/// A day within its year, as 12-21.
+#[derive(Clone, Copy)]
+pub(crate) struct MonthDay(pub(crate) Day);
+
+impl fmt::Display for MonthDay {
+    fn fmt<W: fmt::Write>(&self, f: &mut fmt::Formatter<W>) -> fmt::Result {
+        let Date { month, day, .. } = Date::from_day(self.0);
+        write!(f, "{month:02}-{day:02}")
+    }
+}
+
+/// A line by its code and the month of its expiry, as CNA/12.
+#[derive(Clone, Copy)]
+pub(crate) struct Label {
+    code: CodeText,
+    month: u8,
+}
+
+impl Label {
+    pub(crate) fn of<F: Family>(series: &Series) -> Label {
+        Label {
+            code: CodeText::of::<F>(series),
+            month: Date::from_day(series.expiry).month,
+        }
+    }
+}
+
+impl fmt::Display for Label {
+    fn fmt<W: fmt::Write>(&self, f: &mut fmt::Formatter<W>) -> fmt::Result {
+        let Label { code, month } = *self;
+        write!(f, "{code}/{month:02}")
     }
 }

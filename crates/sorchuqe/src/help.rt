@@ -12,8 +12,8 @@ Usage:
 Commands:
   adjust   what one contract becomes on the day of an event: its code, shares,
            cash, entry, claim and reference price, as the exchange's notice has them
-  demo     a dividend and a stock dividend on two generations of an option, and
-           two brokers in a book of futures, told step by step
+  demo     one stock followed to the end in a book of options and one of futures:
+           its lines and the accounts after each step
 
 A refused event is told on standard error, with its number and reason, and the
 exit status is then 1.
@@ -58,14 +58,18 @@ Examples:
 ";
 
 pub const DEMO: &str = "\
-sorchuqe demo: two events and two brokers, told step by step
+sorchuqe demo: one stock followed to the end, told step by step
 
 Usage:
   sorchuqe demo
 
-A dividend in July makes CNO into CNA with 2,000 dollars in the lot. A new CNO is
-listed. A stock dividend in October moves both one letter on, and each keeps what
-is its own. Each step has the reference price, and the worth of a lot before and
-after it. Then two brokers trade futures on the same stock: equities after each
-step, which add up to zero.
+Three brokers trade options and futures on stock 2891, in two books. A dividend
+in July makes CNO into CNA with 2,000 dollars in the lot, and a new CNO is
+listed. A stock dividend in October moves both generations one letter on, and
+then come rights, with a claim in each lot. One month expires before the payment
+deadline, at which the claims are fixed, and one after it.
+
+Each step has the lines that it changes, with the worth of a lot before and after
+a dividend, and the accounts: lots in each line, equities, and their sums, which
+are zero.
 ";

@@ -1,14 +1,17 @@
 //! The program: reads a command line, asks the libraries, prints the answer.
 #![tactic(auto)]
 
+mod accounts;
 mod amounts;
-mod brokers;
+mod calls;
 mod command;
 mod demo;
 mod fault;
 mod help;
+mod lines;
 mod notice;
 mod request;
+mod steps;
 #[cfg(test)]
 mod tests;
 
