@@ -1,7 +1,7 @@
 //! One call, whichever it is.
 ghost use Rattle.std.specs.Prelude.{◌≡◌};
-ghost use Rattle.terms.specs.Refusals.{answer, Accepted};
-ghost use Rattle.rows.specs.Calls.{refusal as refusal_of, after as after_of, done as done_of, settled};
+ghost use Rattle.terms.specs.Refusals.{answer, Accepted, Smallest};
+ghost use Rattle.rows.specs.Calls.{refusals, refusal as refusal_of, after as after_of, done as done_of, settled};
 
 use crate::book::Book;
 use rows::call::{Call, Done};
@@ -9,9 +9,11 @@ use terms::family::Family;
 use terms::refusal::Refusal;
 
 impl<F: Family> Book<F> {
-    /// Makes one call, whichever it is.
+    /// Makes one call, whichever it is. The number of a refusal is the smallest that fits.
+    #[tactic(auto, using(rows::proofs::Rising::call_smallest))]
     pub fn make(&mut self, call: Call) -> Result<(), Refusal>
         ensures refusal { answer result ≡ refusal_of F.Family.answers self.old.table call }
+        ensures smallest { Smallest (answer result) (refusals F.Family.answers self.old.table call) }
         ensures after { self.new.table ≡ settled (answer result) (after_of F.Family.answers self.old.table call) self.old.table }
     {
         self.carry_out(call)?;

@@ -3,3 +3,4 @@ pub mod Sound
 pub mod Claimed
 pub mod Inputs
 pub mod Priced
+pub mod Rising

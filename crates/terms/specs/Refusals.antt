@@ -1,5 +1,5 @@
 -- Why a call is turned down: each reason's number, and which one is given.
-use Rattle.std.specs.Prelude.{ℕ, Bool, cond, List, [], ◌∷◌, Ok, Err, Result}
+use Rattle.std.specs.Prelude.{◌≡◌, ℕ, ◌≤◌, Bool, true, false, cond, ◌&&◌, ◌||◌, List, [], ◌∷◌, Ok, Err, Result, ◌==◌, nat_lt}
 use Rattle.terms.specs.declared.refusal.Refusal.{Refusal}
 use Rattle.terms.specs.declared.refusal.Refusal.TheVariants.{Malformed, OutsideUnits, Misfit, IllFormedEvent, SameAccount, DeadlineOutOfOrder, NoReferencePrice, UnknownMark, CutShort, UnknownBook, DayPassed, NoLine, NameTaken, PrefixConflict, LinesFull, AccountNotOpen, AccountOpen, AccountsFull, WrongSideOfExpiry, LapsedLine, LevelPastNine, LotOutsideLimits, ClaimInTheWay, NoClaimToFix, ClaimNotFixed, LotsPastLimit, EquityPastLimit}
 
@@ -42,6 +42,22 @@ answer (Err e) = number_of e
 abbrev pub first : List (ℕ × Bool) → ℕ
 first [] = 0
 first (x ∷ xs) = cond x.1 x.0 (first xs)
+
+-- whether the numbers of a list rise, each above the one before it and the first above k
+abbrev pub rise_from : ℕ → List (ℕ × Bool) → Bool
+rise_from k [] = true
+rise_from k (x ∷ xs) = nat_lt k x.0 && rise_from x.0 xs
+
+-- whether a number fits: its condition holds
+abbrev pub fits : ℕ → List (ℕ × Bool) → Bool
+fits n [] = false
+fits n (x ∷ xs) = (x.0 == n && x.1) || fits n xs
+
+-- n is the smallest number that fits, or 0 where none does
+pub record Smallest (n : ℕ) (xs : List (ℕ × Bool)) : Type 0 where
+  pub none : n ≡ 0 → (m : ℕ) → fits m xs ≡ false
+  pub fitting : 1 ≤ n → fits n xs ≡ true
+  pub least : (m : ℕ) → fits m xs ≡ true → n ≤ m
 
 -- what holds of the value of an accepted call
 abbrev pub Accepted : {X : Type 0} → Result X Refusal → (X → Type 0) → Type 0
