@@ -52,6 +52,7 @@ impl<F: Family> Book<F> {
     #[tactic(auto, using(rows::proofs::Sound::all_can_gain))]
     fn close_line(&mut self, place: usize, price: Cents, close: Cents) -> Result<(), Refusal>
         requires place { place < 48 }
+        // (A clause, as `Family` says: a type that held it would have the family in it.)
         requires priced { priced F.Family.answers (lot_of (line_at self.old.table place).terms) price ≡ true }
         requires claimed { claim_fits (line_at self.old.table place).terms.claim ≡ true }
         requires closes { close ≤ 1000000 }

@@ -45,6 +45,7 @@ impl<F: Family> Book<F> {
     #[tactic(auto, using(rows::proofs::Sound::all_can_gain))]
     fn revalue(&mut self, place: usize, price: Cents) -> Result<(), Refusal>
         requires place { place < 48 }
+        // (A clause, as `Family` says: a type that held it would have the family in it.)
         requires priced { priced F.Family.answers (lot_of (line_at self.old.table place).terms) price ≡ true }
         requires fit { terms_fit (line_at self.old.table place).terms ≡ true }
         ensures refusal { answer result ≡ first (revalue_refusals F.Family.answers self.old.table place price) }

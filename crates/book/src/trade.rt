@@ -65,6 +65,7 @@ impl<F: Family> Book<F> {
         requires place { place < 48 }
         requires rows { (b < 64) × (s < 64) }
         requires few { lots ≤ 4000 }
+        // (A clause, as `Family` says: a type that held it would have the family in it.)
         requires priced { priced F.Family.answers (lot_of (line_at self.old.table place).terms) price ≡ true }
         ensures refusal { answer result ≡ first (deal_refusals F.Family.answers self.old.table place b s price lots) }
         ensures after { self.new.table ≡ settled (answer result) (deal_table F.Family.answers self.old.table place b s price lots) self.old.table }

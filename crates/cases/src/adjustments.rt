@@ -57,6 +57,7 @@ const OPEN: Claim = Claim::Open {
 
 const FIXED: Claim = Claim::Fixed { dollars: 0 };
 
+// A short name, here and for STAYS, so that each row of the table stays a line.
 const NONE: Rights = Rights::NONE;
 
 /// The rehearsal's rights: to 0.1 shares at 20.00.
@@ -388,6 +389,7 @@ const OWN: Successor = Successor {
     },
 };
 
+// Half given, here and below, as a call may give it: the refusal of it is what is tested.
 const NO_PREFIX: Successor = Successor {
     stock: 2,
     prefix: Prefix::NONE,

@@ -4,7 +4,8 @@ use terms::code::Name;
 use terms::futures::Futures;
 use terms::options::Options;
 
-/// A code, expiry, right and strike, and the answer in the futures book and in the options book.
+/// A code, expiry, right and strike, and the answer in the futures book and in the options book. The right by
+/// its number: a call may give one that is none, which is refused.
 #[derive(Clone, Copy)]
 struct Case(&'static [u8; 3], u16, u8, u32, Answer, Answer);
 

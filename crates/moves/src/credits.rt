@@ -56,6 +56,7 @@ impl Entries {
     }
 }
 
+// (A type and no closure, as `sweep::Change` says.)
 impl Change for Entries {
     type Row = Account;
 

@@ -24,6 +24,7 @@ struct Moves<F: Family> {
     family: PhantomData<F>,
 }
 
+// (A type and no closure, as `sweep::Change` says.)
 impl<F: Family> Change for Moves<F> {
     type Row = Place;
 
@@ -85,6 +86,7 @@ impl Fix {
     }
 }
 
+// (A type and no closure, as `sweep::Change` says.)
 impl Change for Fix {
     type Row = Place;
 

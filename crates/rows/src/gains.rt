@@ -68,6 +68,7 @@ impl Gain {
     }
 }
 
+// (A type and no closure, as `sweep::Change` says.)
 impl Change for Gain {
     type Row = Account;
 
@@ -86,6 +87,7 @@ struct Closing {
     gain: Gain,
 }
 
+// (A type and no closure, as `sweep::Change` says.)
 impl Change for Closing {
     type Row = Account;
 

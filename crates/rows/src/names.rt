@@ -46,7 +46,7 @@ pub fn series_of<F: Family>(name: &Name) -> Series
 }
 
 /// The series of a name, or why a call is refused that gives it with other numbers, which may be outside their
-/// limits.
+/// limits. (Not by `Name::read`: the other numbers are judged between the code and the right.)
 pub fn named<F: Family>(name: &Name, is_outside: bool) -> Result<Series, Refusal>
     ensures refusal { answer result ≡ first (naming_refusals F.Family.answers name.now is_outside) }
     ensures series { Accepted result (λ s. s ≡ series_of F.Family.answers name.now) }

@@ -138,6 +138,7 @@ impl Happening {
     }
 }
 
+// To be filled in, as that of a request.
 const NO_EVENT: Event = Event {
     stock: STOCK,
     ..request::NO_EVENT

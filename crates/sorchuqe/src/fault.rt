@@ -1,5 +1,5 @@
-//! Why a command has no answer. `Display` and `From` are by hand, so that the program rests on no other crate
-//! for them.
+//! Why a command has no answer. `Display` and `From` are by hand: the derives are another crate's, and each case has
+//! words of its own, so that they would be no plainer.
 use std::alloc::{AllocError, Global};
 use std::{fmt, io};
 use terms::refusal::Refusal;

@@ -16,6 +16,7 @@ use terms::units::{
 
 const HELP: &str = "adjust --help";
 
+/// (As that of the tables in `cases`; neither crate rests on the other.)
 #[derive(Clone, Copy)]
 pub enum Book {
     Futures,
@@ -35,6 +36,7 @@ pub struct Request {
     pub event: Event,
 }
 
+/// To be filled in from the options: a part that is not given is 0, as in a call.
 pub(crate) const NO_EVENT: Event = Event {
     stock: 1,
     cash: 0,
@@ -236,7 +238,7 @@ impl Unit {
     }
 }
 
-// How often an option is given.
+// How often an option is given. By pairs of words, as in `set_all`, and below too.
 fn times(options: &[&str], option: &str) -> usize {
     options
         .chunks(2)

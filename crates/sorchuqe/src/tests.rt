@@ -7,7 +7,7 @@ use std::test::Fail;
 #[derive(Debug, Clone, Copy, PartialEq, Eq)]
 enum End {
     Answered,
-    /// By its number.
+    /// By its number, which the rules give and the program prints: that is what is tested.
     Refused(u8),
     /// The words are wrong.
     Unread,

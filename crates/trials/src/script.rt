@@ -264,6 +264,7 @@ pub(crate) fn follow<F: Family>(
     style: &Style,
     script: &[(Step, Answer)],
 ) {
+    // With the index, which only the message says.
     for (i, &(step, expected)) in script.iter().enumerate() {
         assert_eq!(rt; take(rt, book, style, step), expected, "step {i}");
     }
