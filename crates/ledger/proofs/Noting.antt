@@ -22,7 +22,7 @@ pub number_noted : {X : Type 0} (r : Result X Refusal) → outcome_number (resul
 number_noted (Ok x) = refl
 number_noted (Err e) = refl
 
-one_noted :
+pub one_noted :
     (ns : List ℕ) (k : ℕ) (before given : List (Option Refusal)) (x : Option Refusal) →
     length ns ≡ k →
     length given ≡ length before →

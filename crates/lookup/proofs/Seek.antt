@@ -80,6 +80,10 @@ module _ {X : Type 0} (p : X → Bool) where
   pub none_any : (xs : List X) → None ≡ sought p xs → any_of p xs ≡ false
   none_any xs e = seek_out xs (none_sought xs e)
 
+  -- The same of an answer that is the place.
+  pub none_found : (xs : List X) (r : Option ℕ) → r ≡ sought p xs → r ≡ None → any_of p xs ≡ false
+  none_found xs r e n = none_any xs (sym n ∙ e)
+
   -- Where the relation holds of an answer, the answer is the place.
   first_at_seek : (xs : List X) (i : ℕ) → FirstAt p xs i → i ≡ seek p xs
   first_at_seek [] i f = absurd (omega (arith, f.within))

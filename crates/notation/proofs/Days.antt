@@ -13,7 +13,7 @@ before_month_more y m h =
     let this : 1 + (m - 1) ≡ m = omega arith in
     ap (total (λ n. month_length y (1 + n))) next ∙ ap (λ x. days_before_month y m + month_length y x) this
 
-month_short : (y m : ℕ) → month_length y m ≤ 31
+pub month_short : (y m : ℕ) → month_length y m ≤ 31
 month_short y m = grind (arith, nat_tests)
 
 -- the lengths of the first months of a year, as a list

@@ -44,6 +44,21 @@ lots_few r e = (and_parts (leb (nat_abs r.equity) most_equity) (all_of few r.lot
 row_in : (r : Account) → nat_abs r.equity ≤ most_equity → all_of few r.lots ≡ true → row_fits r ≡ true
 row_in r h k = and_from (leb (nat_abs r.equity) most_equity) (all_of few r.lots) (le-leb (nat_abs r.equity) most_equity h) k
 
+-- for callers that have two values
+pub held_of : (r : Account) (j from to : ℕ) → row_fits r ≡ true → from ≤ largest_value → to ≤ largest_value → Held r j from to
+held_of r j from to f h k =
+    record {
+      lots = leb-true (nat_abs (lots_in j r)) most_lots (all_at few r.lots j (pos 0) refl (lots_few r f));
+      equity = leb-true (nat_abs r.equity) most_equity (and_parts (leb (nat_abs r.equity) most_equity) (all_of few r.lots) f).0;
+      old = h;
+      new = k;
+    }
+
+pub held_at :
+    (rows : List Account) (i j from to : ℕ) → all_of row_fits rows ≡ true → from ≤ largest_value → to ≤ largest_value →
+    Held (get_or rows i no_account) j from to
+held_at rows i j from to e = held_of (get_or rows i no_account) j from to (all_at row_fits rows i no_account refl e)
+
 pub can_gain_of : (j : ℕ) (r : Account) → row_fits r ≡ true → can_gain j r ≡ true
 can_gain_of j r f =
     and_from (leb (nat_abs r.equity) most_equity) (few (lots_in j r)) (and_parts (leb (nat_abs r.equity) most_equity) (all_of few r.lots) f).0

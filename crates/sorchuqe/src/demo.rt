@@ -30,7 +30,9 @@ impl Books {
     }
 }
 
-/// The steps, each with the books before and after it.
+/// The steps, each with the books before and after it. (Not inlined: its books would stand on the stack of every
+/// command.)
+#[inline(never)]
 pub(crate) fn story(heap: Global) -> Result<String, Fault> {
     all_accepted::<Options>(heap, &IN_OPTIONS)?;
     all_accepted::<Futures>(heap, &IN_FUTURES)?;

@@ -21,6 +21,7 @@ pub trait Change {
 }
 
 /// Each row changed in its place.
+#[tactic(auto, using(std::proofs::lemmas::List::Edits::map_over_more))]
 pub fn change_all<C: Change>(rows: &mut [C::Row], change: &C)
     requires { all_of (C.Change.can change.now) rows.old ≡ true }
     ensures { rows.new ≡ map (C.Change.makes change.now) rows.old }

@@ -443,7 +443,8 @@ fn ask<F: Family>(rt: &impl Abort, book: &Book<F>, style: &Style, step: Step) ->
             Some(label.series(style)),
         ),
         Step::Bare(place) => check(rt, Ok(is_bare(&book.table, place)), true),
-        _ => Ok(()),
+        // A step that no call and no question stands for: no refusal has this number.
+        _ => Err(0),
     }
 }
 
